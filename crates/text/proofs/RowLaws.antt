@@ -1,0 +1,219 @@
+-- The cells of a line, judged one after the other.
+use Prim.Native.Nat.{ℕ, zero, suc, _+_, _-_, _≤_, _<_}
+use mathlib.Core.Path.{_≡_, refl, sym, ap, subst, _∙_}
+use mathlib.Core.List.{List, [], _∷_}
+use mathlib.Core.Bool.{Bool, true, false, cond, _&&_, _||_}
+use native.Mathlib.Numerals.{add-one}
+use native.Mathlib.Omega.{arith}
+use lib.ListN.{length, getD, set, drop, drop-of-length-le}
+use lib.Seq.{drop-cons}
+use lib.Dec.{eqb}
+use borrow.Author.Tests.{eq-eqb, ne-eqb, eqb-true, eqb-false}
+use Rattle.text.specs.declared.Judged.{Judged}
+use Rattle.text.specs.declared.Keys.{Keys}
+use Rattle.text.specs.declared.CellsRead.{CellsRead}
+use Rattle.text.specs.Cells.{cellAt, next, pieces, lineAt, laterPieces}
+use Rattle.text.specs.Decimals.{Verdict, blank, wrong, outOfRange, good}
+use Rattle.text.specs.Judge.{kindOf, judge, judgedOf, numberOf, stopsAt, judgedAt}
+use Rattle.text.specs.Rows.{isGood, sizeOf, missingIn, noted, noKeys, endedAt, noCells, isLast, cellsFrom, cellsAt, share, keysIn}
+use Rattle.text.specs.Scans.{Stop}
+use Rattle.text.proofs.CellLaws.{next-parts, pieces-last, pieces-more, stop-holds}
+use Rattle.text.proofs.JudgeLaws.{judged-number, judged-at, judged-good}
+
+-- ---- the keys as five numbers
+module _ (l : List ℕ) (h : 4 < length l) (k a q v : ℕ) where
+  pub noted-expocode : k ≡ 6 → keysIn (set (set l 0 a) 1 (q - a)) ≡ noted k a q v (keysIn l)
+  unfolding noted
+  noted-expocode e = rw (eq-eqb k 6 e) (go l h)
+    where
+      go : (l : List ℕ) → 4 < length l → _≡_ {A = Keys} (keysIn (set (set l 0 a) 1 (q - a))) (record { expocode = record { start = a; len = q - a }; stnnbr = keysIn l .stnnbr; castno = keysIn l .castno })
+      go [] h = absurd (omega arith)
+      go (x ∷ []) h = absurd (omega arith)
+      go (x ∷ (y ∷ l)) h = refl
+
+  pub noted-stnnbr : k ≡ 7 → keysIn (set (set l 2 a) 3 (q - a)) ≡ noted k a q v (keysIn l)
+  unfolding noted
+  noted-stnnbr e = rw (ne-eqb k 6 (λ z. omega arith), eq-eqb k 7 e) (go l h)
+    where
+      go : (l : List ℕ) → 4 < length l → _≡_ {A = Keys} (keysIn (set (set l 2 a) 3 (q - a))) (record { expocode = keysIn l .expocode; stnnbr = record { start = a; len = q - a }; castno = keysIn l .castno })
+      go [] h = absurd (omega arith)
+      go (x ∷ []) h = absurd (omega arith)
+      go (x ∷ (y ∷ [])) h = absurd (omega arith)
+      go (x ∷ (y ∷ (z ∷ []))) h = absurd (omega arith)
+      go (x ∷ (y ∷ (z ∷ (u ∷ l)))) h = refl
+
+  pub noted-castno : k ≡ 8 → keysIn (set l 4 v) ≡ noted k a q v (keysIn l)
+  unfolding noted
+  noted-castno e = rw (ne-eqb k 6 (λ z. omega arith), ne-eqb k 7 (λ z. omega arith), eq-eqb k 8 e) (go l h)
+    where
+      go : (l : List ℕ) → 4 < length l → _≡_ {A = Keys} (keysIn (set l 4 v)) (record { expocode = keysIn l .expocode; stnnbr = keysIn l .stnnbr; castno = v })
+      go [] h = absurd (omega arith)
+      go (x ∷ []) h = absurd (omega arith)
+      go (x ∷ (y ∷ [])) h = absurd (omega arith)
+      go (x ∷ (y ∷ (z ∷ []))) h = absurd (omega arith)
+      go (x ∷ (y ∷ (z ∷ (u ∷ [])))) h = absurd (omega arith)
+      go (x ∷ (y ∷ (z ∷ (u ∷ (w ∷ l))))) h = refl
+
+pub noted-other : (k a q v : ℕ) (w : Keys) → (k ≡ 6 → ⊥) → (k ≡ 7 → ⊥) → (k ≡ 8 → ⊥) → w ≡ noted k a q v w
+unfolding noted
+noted-other k a q v w x y z = rw (ne-eqb k 6 x, ne-eqb k 7 y, ne-eqb k 8 z)
+
+-- ---- one cell
+module _ (n k : ℕ) (v : Verdict) (j : Judged) (e : j ≡ judgedOf n v) where
+  number-is : j .number ≡ numberOf v
+  number-is = ap (λ (x : Judged). x .number) e ∙ judged-number n v
+
+  at-is : j .at ≡ n
+  at-is = ap (λ (x : Judged). x .at) e ∙ judged-at n v
+
+  good-by : (v : Verdict) → numberOf v ≡ 0 → isGood v ≡ true
+  good-by blank h = absurd (omega arith)
+  good-by wrong h = absurd (omega arith)
+  good-by outOfRange h = absurd (omega arith)
+  good-by (good m x d) h = refl
+
+  bad-by : (v : Verdict) → (numberOf v ≡ 0 → ⊥) → isGood v ≡ false
+  bad-by blank h = refl
+  bad-by wrong h = refl
+  bad-by outOfRange h = refl
+  bad-by (good m x d) h = absurd (h refl)
+
+  good-is : j .number ≡ 0 → isGood v ≡ true
+  good-is h = good-by v (sym number-is ∙ h)
+
+  bad-is : (j .number ≡ 0 → ⊥) → isGood v ≡ false
+  bad-is h = bad-by v (λ z. h (number-is ∙ z))
+
+  verdict-is : j .number ≡ 0 → v ≡ good (j .minus) (j .size) (j .decimals)
+  verdict-is h = subst (λ (x : Judged). v ≡ good (x .minus) (x .size) (x .decimals)) (sym e) (judged-good n v (ap (λ (x : Judged). x .number) (sym e) ∙ h))
+
+  missing-is : j .number ≡ 0 → missingIn k v ≡ share k j
+  unfolding missingIn
+  missing-is h = rw (verdict-is h)
+
+  size-is : j .number ≡ 0 → sizeOf v ≡ j .size
+  size-is h = rw (verdict-is h)
+
+-- ---- the list of cells from there
+module _ (i at g m : ℕ) (w : Keys) (k : ℕ) (ks : List ℕ) (t : List ℕ) (ts : List (List ℕ)) (j : Judged) (e : j ≡ judgedOf (at + length t) (judge (kindOf k) t)) where
+  from-refused : (j .number ≡ 0 → ⊥) → cellsFrom i at g m w (k ∷ ks) (t ∷ ts) ≡ endedAt at g m w j
+  unfolding cellsFrom
+  from-refused h = rw (bad-is (at + length t) k (judge (kindOf k) t) j e h) (ap (endedAt at g m w) (sym e))
+
+  module _ (h : j .number ≡ 0) (m' : ℕ) (em : m' ≡ m + share k j) (w' : Keys) (ew : w' ≡ noted k at (j .at) (j .size) w) where
+    keys-is : noted k at (at + length t) (sizeOf (judge (kindOf k) t)) w ≡ w'
+    keys-is = ap (λ (q : ℕ). noted k at q (sizeOf (judge (kindOf k) t)) w) (sym (at-is (at + length t) k (judge (kindOf k) t) j e))
+        ∙ ap (λ (x : ℕ). noted k at (j .at) x w) (size-is (at + length t) k (judge (kindOf k) t) j e h) ∙ sym ew
+
+    count-is : m + missingIn k (judge (kindOf k) t) ≡ m'
+    count-is = ap (λ (x : ℕ). m + x) (missing-is (at + length t) k (judge (kindOf k) t) j e h) ∙ sym em
+
+    from-ended : isLast ks ts ≡ true → cellsFrom i at g m w (k ∷ ks) (t ∷ ts) ≡ endedAt at (g + 1) m' w' j
+    unfolding cellsFrom
+    from-ended l = rw (good-is (at + length t) k (judge (kindOf k) t) j e h, l) (
+        ap (λ (x : ℕ). endedAt at (g + 1) x (noted k at (at + length t) (sizeOf (judge (kindOf k) t)) w) (judgedOf (at + length t) (judge (kindOf k) t))) count-is
+        ∙ ap (λ (x : Keys). endedAt at (g + 1) m' x (judgedOf (at + length t) (judge (kindOf k) t))) keys-is
+        ∙ ap (endedAt at (g + 1) m' w') (sym e))
+
+    from-on : isLast ks ts ≡ false → cellsFrom i at g m w (k ∷ ks) (t ∷ ts) ≡ cellsFrom i (j .at + 1) (g + 1) m' w' ks ts
+    unfolding cellsFrom
+    from-on l = rw (good-is (at + length t) k (judge (kindOf k) t) j e h, l) (
+        ap (λ (x : ℕ). cellsFrom i (at + length t + 1) (g + 1) x (noted k at (at + length t) (sizeOf (judge (kindOf k) t)) w) ks ts) count-is
+        ∙ ap (λ (x : Keys). cellsFrom i (at + length t + 1) (g + 1) m' x ks ts) keys-is
+        ∙ ap (λ (x : ℕ). cellsFrom i (x + 1) (g + 1) m' w' ks ts) (sym (at-is (at + length t) k (judge (kindOf k) t) j e)))
+
+-- ---- in a line of s
+module _ (i : ℕ) (kinds s : List ℕ) (c : ℕ) where
+  -- what is left to judge
+  abbrev pub left : ℕ → ℕ → ℕ → Keys → CellsRead
+  left at k m w = cellsFrom i at k m w (drop k kinds) (pieces c (lineAt s at))
+
+  pub left-none : (at k m : ℕ) (w : Keys) → length kinds ≤ k → left at k m w ≡ noCells i
+  unfolding cellsFrom
+  left-none at k m w h = rw (drop-of-length-le kinds h)
+
+  module _ (at k m : ℕ) (w : Keys) (e : ℕ) (t : Stop c s at e) (h : k < length kinds) (j : Judged) (ej : j ≡ judgedOf (next c s at) (judge (kindOf (getD kinds k 0)) (cellAt c s at))) where
+    kinds-on : drop k kinds ≡ getD kinds k 0 ∷ drop (k + 1) kinds
+    kinds-on = rw (add-one k) (drop-cons kinds k 0 h)
+
+    pub ends-at : j .at ≡ next c s at
+    ends-at = at-is (next c s at) 0 (judge (kindOf (getD kinds k 0)) (cellAt c s at)) j ej
+
+    judged-there : j ≡ judgedOf (at + length (cellAt c s at)) (judge (kindOf (getD kinds k 0)) (cellAt c s at))
+    unfolding next
+    judged-there = ej
+
+    pub left-refused : (j .number ≡ 0 → ⊥) → left at k m w ≡ endedAt at k m w j
+    left-refused z = ap (λ (ks : List ℕ). cellsFrom i at k m w ks (pieces c (lineAt s at))) kinds-on
+        ∙ from-refused i at k m w (getD kinds k 0) (drop (k + 1) kinds) (cellAt c s at) (laterPieces c (lineAt s at)) j judged-there z
+
+    module _ (z : j .number ≡ 0) (m' : ℕ) (em : m' ≡ m + share (getD kinds k 0) j) (w' : Keys) (ew : w' ≡ noted (getD kinds k 0) at (j .at) (j .size) w) where
+      -- the cells, first and others
+      split : (ks : List ℕ) (ts : List (List ℕ)) → drop (k + 1) kinds ≡ ks → pieces c (lineAt s at) ≡ cellAt c s at ∷ ts → isLast ks ts ≡ true → left at k m w ≡ endedAt at (k + 1) m' w' j
+      split ks ts ek et l = ap (λ (x : List ℕ). cellsFrom i at k m w x (pieces c (lineAt s at))) (kinds-on ∙ ap (λ (x : List ℕ). getD kinds k 0 ∷ x) ek)
+          ∙ ap (cellsFrom i at k m w (getD kinds k 0 ∷ ks)) et
+          ∙ from-ended i at k m w (getD kinds k 0) ks (cellAt c s at) ts j judged-there z m' em w' ew l
+
+      last-list : (ks : List ℕ) → isLast ks [] ≡ true
+      last-list [] = refl
+      last-list (x ∷ ks) = refl
+
+      pub left-feed : getD s (j .at) 0 ≡ 10 → left at k m w ≡ endedAt at (k + 1) m' w' j
+      left-feed f = split (drop (k + 1) kinds) [] refl (pieces-last t (subst (λ (q : ℕ). getD s q 0 ≡ 10) ends-at f)) (last-list (drop (k + 1) kinds))
+
+      pub left-last : k + 1 ≡ length kinds → left at k m w ≡ endedAt at (k + 1) m' w' j
+      left-last f = let l : length kinds ≤ k + 1 = omega arith in split [] (laterPieces c (lineAt s at)) (drop-of-length-le kinds l) refl refl
+
+      more-list : (ks : List ℕ) (ts : List (List ℕ)) → 0 < length ks → 0 < length ts → isLast ks ts ≡ false
+      more-list [] ts p q = absurd (omega arith)
+      more-list (x ∷ ks) [] p q = absurd (omega arith)
+      more-list (x ∷ ks) (y ∷ ts) p q = refl
+
+      pub left-on : (getD s (j .at) 0 ≡ 10 → ⊥) → (k + 1 ≡ length kinds → ⊥) → left at k m w ≡ left (j .at + 1) (k + 1) m' w'
+      left-on f n =
+          let fn : getD s (next c s at) 0 ≡ 10 → ⊥ = λ z. f (subst (λ (q : ℕ). getD s q 0 ≡ 10) (sym ends-at) z) in
+          let p : getD s (next c s at) 0 ≡ c = next-parts t fn in
+          let more : pieces c (lineAt s at) ≡ cellAt c s at ∷ pieces c (lineAt s (next c s at + 1)) = pieces-more t (λ z. fn (p ∙ z)) p in
+          ap (λ (x : List ℕ). cellsFrom i at k m w x (pieces c (lineAt s at))) kinds-on
+          ∙ ap (cellsFrom i at k m w (getD kinds k 0 ∷ drop (k + 1) kinds)) more
+          ∙ from-on i at k m w (getD kinds k 0) (drop (k + 1) kinds) (cellAt c s at) (pieces c (lineAt s (next c s at + 1))) j judged-there z m' em w' ew
+          (more-list (drop (k + 1) kinds) (pieces c (lineAt s (next c s at + 1))) (kinds-left n) (omega arith))
+          ∙ ap (λ (q : ℕ). cellsFrom i (j .at + 1) (k + 1) m' w' (drop (k + 1) kinds) (pieces c (lineAt s (q + 1)))) (sym ends-at)
+        where
+          kinds-left : (k + 1 ≡ length kinds → ⊥) → 0 < length (drop (k + 1) kinds)
+          kinds-left n = rw (lib.ListN.length-drop (k + 1) kinds) (omega arith)
+
+      -- by the code's test
+      pub left-ended : (eqb (getD s (j .at) 0) 10 || eqb (k + 1) (length kinds)) ≡ true → left at k m w ≡ endedAt at (k + 1) m' w' j
+      left-ended f = go (eqb (getD s (j .at) 0) 10) refl f
+        where
+          go : (b : Bool) → eqb (getD s (j .at) 0) 10 ≡ b → (b || eqb (k + 1) (length kinds)) ≡ true → left at k m w ≡ endedAt at (k + 1) m' w' j
+          go true p f = left-feed (eqb-true _ _ p)
+          go false p f = left-last (eqb-true _ _ f)
+
+      pub left-goes : (eqb (getD s (j .at) 0) 10 || eqb (k + 1) (length kinds)) ≡ false → (getD s (j .at) 0 ≡ 10 → ⊥) × (left at k m w ≡ left (j .at + 1) (k + 1) m' w')
+      left-goes f = go (eqb (getD s (j .at) 0) 10) refl f
+        where
+          go : (b : Bool) → eqb (getD s (j .at) 0) 10 ≡ b → (b || eqb (k + 1) (length kinds)) ≡ false → (getD s (j .at) 0 ≡ 10 → ⊥) × (left at k m w ≡ left (j .at + 1) (k + 1) m' w')
+          go true p f = let z : _≡_ {A = ℕ} 0 1 = cc in absurd (omega arith)
+          go false p f = (eqb-false _ _ p, left-on (eqb-false _ _ p) (eqb-false _ _ f))
+
+-- ---- one cell by itself
+pub one-cell : (k c : ℕ) (s : List ℕ) (i e : ℕ) (r : CellsRead) → r ≡ cellsAt (k ∷ []) c s i e
+    → _≡_ {A = Judged} (record { at = r .at; number = r .number; minus = r .minus; size = r .size; decimals = r .decimals }) (judgedAt k c s i e)
+unfolding cellsAt judgedAt next cellsFrom
+one-cell k c s i e r h = rw h (go (stopsAt c s i e) (isGood (judge (kindOf k) (cellAt c s i))))
+  where
+    v : Verdict
+    v = judge (kindOf k) (cellAt c s i)
+
+    n : ℕ
+    n = i + length (cellAt c s i)
+
+    of : CellsRead → Judged
+    of r = record { at = r .at; number = r .number; minus = r .minus; size = r .size; decimals = r .decimals }
+
+    go : (b g : Bool) → of (cond b (cond g (endedAt i (0 + 1) (0 + missingIn k v) (noted k i n (sizeOf v) noKeys) (judgedOf n v)) (endedAt i 0 0 noKeys (judgedOf n v))) (noCells i)) ≡ cond b (judgedOf n v) (judgedOf i wrong)
+    go true true = refl
+    go true false = refl
+    go false g = refl

@@ -1,0 +1,103 @@
+use mathlib.Core.Path.{sym, _∙_}
+use borrow.Author.Needs.{needs}
+use Rattle.text.proofs.CellLaws.{stop-moved}
+use Rattle.text.proofs.ScanLaws.{judged-blank, judged-solid}
+use Rattle.text.proofs.KindLaws.{date-other, date-refused, date-good, date-out}
+use Rattle.text.proofs.cells.date.Statement.{statement}
+use Rattle.text.proofs.cells.date.Tie as tie
+
+spaces-requires : tie.Need-spaces-requires
+spaces-requires c κs = search needs
+
+shared-slice-read-b : tie.Need-shared-slice-read-b
+shared-slice-read-b c = search needs
+
+blank-cell-requires : tie.Need-blank-cell-requires
+blank-cell-requires c κs = search needs
+
+returns : tie.Need-returns
+returns c =
+    let a = c .before .before .before in
+    judged-blank (a .before .before .pre) (a .spaces .ensures) _ _ (c .before .if1 .taken) (c .blank-cell .ensures)
+
+add-digits : tie.Need-add-digits
+add-digits c = search needs
+
+digits-requires : tie.Need-digits-requires
+digits-requires c κs = search needs
+
+sub-if2 : tie.Need-sub-if2
+sub-if2 c = search needs
+
+wrong-cell-requires : tie.Need-wrong-cell-requires
+wrong-cell-requires c κs = search needs
+
+returns-2 : tie.Need-returns-2
+returns-2 c =
+    let w = c .before .before in
+    let d = w .before in
+    let a = d .before .before in
+    let t = a .before .before .pre in
+    judged-solid t (a .spaces .ensures) _ _ (d .if1 .left)
+    (date-other (stop-moved t (a .spaces .ensures .high)) (w .digits .ensures) _ (c .before .if2 .taken) (c .wrong-cell .ensures))
+
+close-requires : tie.Need-close-requires
+close-requires c κs = search needs
+
+returns-3 : tie.Need-returns-3
+returns-3 c =
+    let f = c .before .before in
+    let w = f .before .before in
+    let d = w .before in
+    let a = d .before .before in
+    let t = a .before .before .pre in
+    judged-solid t (a .spaces .ensures) _ _ (d .if1 .left)
+    (date-refused (stop-moved t (a .spaces .ensures .high)) (w .digits .ensures) (f .before .if2 .left) _ (f .close .ensures) (c .if3 .taken))
+
+is-date-requires : tie.Need-is-date-requires
+is-date-requires c κs = search needs
+
+returns-4 : tie.Need-returns-4
+returns-4 c =
+    let f = c .before .before .before .before in
+    let w = f .before .before in
+    let d = w .before in
+    let a = d .before .before in
+    let t = a .before .before .pre in
+    judged-solid t (a .spaces .ensures) _ _ (d .if1 .left)
+    (date-good (stop-moved t (a .spaces .ensures .high)) (w .digits .ensures) (f .before .if2 .left) _ (f .close .ensures) (sym (c .before .is-date .ensures) ∙ c .if4 .taken))
+
+out-of-range-requires : tie.Need-out-of-range-requires
+out-of-range-requires c κs = search needs
+
+returns-5 : tie.Need-returns-5
+returns-5 c =
+    let g = c .before .before .before in
+    let f = g .before .before in
+    let w = f .before .before in
+    let d = w .before in
+    let a = d .before .before in
+    let t = a .before .before .pre in
+    let o = sym (c .before .before .is-date .ensures) ∙ c .before .if4 .left in
+    judged-solid t (a .spaces .ensures) _ _ (d .if1 .left)
+    (date-out (stop-moved t (a .spaces .ensures .high)) (w .digits .ensures) (f .before .if2 .left) _ (f .close .ensures) _ (g .if3 .left) o (c .out-of-range .ensures))
+
+pub date-spec : {M : Type 1} → statement M
+date-spec =
+    tie.close
+    (tie.spec
+    spaces-requires
+    shared-slice-read-b
+    blank-cell-requires
+    returns
+    add-digits
+    digits-requires
+    sub-if2
+    wrong-cell-requires
+    returns-2
+    close-requires
+    returns-3
+    is-date-requires
+    returns-4
+    out-of-range-requires
+    returns-5)

@@ -1,0 +1,99 @@
+-- Document 01, "The catalogue": the names under their kinds. The table has them padded with zeros to 16 bytes, in rising byte order.
+use Prim.Native.Nat.{ℕ, zero, suc, _+_, _-_, _*_, _/_}
+use Prim.Native.String.{String}
+use mathlib.Core.List.{List, [], _∷_, _++_, map}
+use mathlib.Core.Bool.{Bool, cond}
+use lib.ListN.{length, getD, take, drop, replicate}
+use lib.Dec.{eqb, ltb}
+use Rattle.text.specs.declared.Found.{Found}
+use Rattle.text.specs.declared.Found.the-variants.{At, Nowhere}
+use Rattle.text.specs.Bytes.{bytes, equal}
+use Rattle.text.specs.Judge.{Kind, measured, latitude, longitude, depth, flag, ctdFlag, expocode, stnnbr, castno, date, time, free}
+
+-- the code's number of a kind
+abbrev pub codeOf : Kind → ℕ
+codeOf measured = 0
+codeOf latitude = 1
+codeOf longitude = 2
+codeOf depth = 3
+codeOf flag = 4
+codeOf ctdFlag = 5
+codeOf expocode = 6
+codeOf stnnbr = 7
+codeOf castno = 8
+codeOf date = 9
+codeOf time = 10
+codeOf free = 11
+
+pub record Listed : Type 0 where
+  pub name : List ℕ
+  pub kind : ℕ
+
+abbrev pub under : Kind → List String → List Listed
+under k ts = map (λ (t : String). record { name = bytes t; kind = codeOf k }) ts
+
+unfoldable pub listed : List Listed
+listed =
+    under free ("BTLNBR" ∷ "SAMPNO" ∷ "SECT" ∷ "SECT_ID" ∷ [])
+    ++ under castno ("CASTNO" ∷ [])
+    ++ under date ("DATE" ∷ [])
+    ++ under depth ("DEPTH" ∷ [])
+    ++ under expocode ("EXPOCODE" ∷ [])
+    ++ under latitude ("LATITUDE" ∷ [])
+    ++ under longitude ("LONGITUDE" ∷ [])
+    ++ under stnnbr ("STNNBR" ∷ [])
+    ++ under time ("TIME" ∷ [])
+    ++ under measured
+    ("ALKALI" ∷ "CCL4" ∷ "CFC-11" ∷ "CFC-12" ∷ "CFC113" ∷ "CTDCT" ∷ "CTDOXY" ∷ "CTDPRS" ∷ "CTDRAW" ∷ "CTDSAL" ∷ "CTDTMP"
+    ∷ "DELC13" ∷ "DELC14" ∷ "DELHE3" ∷ "DELHER" ∷ "DNSSAL" ∷ "HELIER" ∷ "HELIUM" ∷ "NITRAT" ∷ "NITRIT" ∷ "NO2+NO3"
+    ∷ "O18O16" ∷ "OXYGEN" ∷ "PCO2" ∷ "PCO2TMP" ∷ "PH" ∷ "PHSPHT" ∷ "REFTMP" ∷ "REVPRS" ∷ "REVTMP" ∷ "SALNTY" ∷ "SILCAT"
+    ∷ "TCARBN" ∷ "THETA" ∷ "TRITER" ∷ "TRITUM" ∷ [])
+
+-- a name padded with zeros to 16 bytes
+abbrev pub padded : List ℕ → List ℕ
+padded t = t ++ replicate (16 - length t) 0
+
+-- 16 bytes as a number, the bytes its digits to base 256: of two entries the greater number is the later in byte order
+unfoldable pub base256 : ℕ → List ℕ → ℕ
+base256 acc [] = acc
+base256 acc (x ∷ xs) = base256 (acc * 256 + x) xs
+
+-- put in rising byte order
+unfoldable pub insert : Listed → List Listed → List Listed
+insert x [] = x ∷ []
+insert x (y ∷ ys) = cond (ltb (base256 0 (padded (x .name))) (base256 0 (padded (y .name)))) (x ∷ (y ∷ ys)) (y ∷ insert x ys)
+
+unfoldable pub ordered : List Listed → List Listed
+ordered [] = []
+ordered (x ∷ xs) = insert x (ordered xs)
+
+unfoldable pub flat : List Listed → List ℕ
+flat [] = []
+flat (x ∷ xs) = padded (x .name) ++ flat xs
+
+-- the table of names, and the kind of each entry
+unfoldable pub names : List ℕ
+names = flat (ordered listed)
+
+unfoldable pub kinds : List ℕ
+kinds = map (λ (x : Listed). x .kind) (ordered listed)
+
+-- entry k of a table of names
+abbrev pub entryAt : List ℕ → ℕ → List ℕ
+entryAt t k = take 16 (drop (16 * k) t)
+
+-- the first entry from k on, of n, that is the name
+unfoldable pub searchFrom : List ℕ → List ℕ → ℕ → ℕ → Found
+searchFrom t name zero k = Nowhere
+searchFrom t name (suc n) k = cond (equal (entryAt t k) (padded name)) (At k) (searchFrom t name n (suc k))
+
+unfoldable pub lookUp : List ℕ → List ℕ → Found
+lookUp t name = searchFrom t name (length t / 16) 0
+
+abbrev pub kindAt : List ℕ → Found → ℕ
+kindAt ks (At k) = getD ks k (codeOf free)
+kindAt ks Nowhere = codeOf free
+
+-- the kind of a name by a table: free text where it is not listed
+unfoldable pub kindIn : List ℕ → List ℕ → List ℕ → ℕ
+kindIn t ks name = kindAt ks (lookUp t name)

@@ -1,0 +1,13 @@
+pub mod Bytes
+pub mod Cells
+pub mod Spaces
+pub mod Lines
+pub mod Names
+pub mod Catalogue
+pub mod Decimals
+pub mod Dates
+pub mod Judge
+pub mod Reading
+pub mod Rows
+pub mod Scans
+pub mod Samples

@@ -1,0 +1,132 @@
+// A decimal in one pass: spaces, sign, digits, point, digits, spaces.
+ghost use mathlib.Core.Path.{_≡_};
+ghost use mathlib.Core.Bool.{cond, _||_};
+ghost use Prim.Native.Nat.{_+_, _-_, _^_, _≤_, _<_};
+ghost use lib.Dec.{eqb};
+ghost use Rattle.text.specs.Cells.{next, cellAt};
+ghost use Rattle.text.specs.Spaces.{trim};
+ghost use Rattle.text.specs.Decimals.{blank, wrong, good, unsignedOf, decimalOf};
+ghost use Rattle.text.specs.Judge.{unlessBlank, judgedOf};
+ghost use Rattle.text.specs.Scans.{Stop, body, closing};
+use crate::Judged;
+use crate::runs::digits;
+use crate::runs::spaces;
+use crate::runs::text_end;
+
+// A cell that is blank, and one that is not of its kind; what is left of it goes on at q.
+pub fn blank_cell(s: &[u8], q: usize, e: usize, separator: u8) -> Judged
+    requires { ⌜ Stop separator (now s) q e ⌝ }
+    ensures { λ r. ⌜ r ≡ judgedOf (next separator (now (s .entry)) q) blank ⌝ }
+{
+    Judged {
+        at: text_end(s, q, e, separator),
+        number: 17,
+        minus: false,
+        size: 0,
+        decimals: 0,
+    }
+}
+
+pub fn wrong_cell(s: &[u8], q: usize, e: usize, separator: u8) -> Judged
+    requires { ⌜ Stop separator (now s) q e ⌝ }
+    ensures { λ r. ⌜ r ≡ judgedOf (next separator (now (s .entry)) q) wrong ⌝ }
+{
+    Judged {
+        at: text_end(s, q, e, separator),
+        number: 16,
+        minus: false,
+        size: 0,
+        decimals: 0,
+    }
+}
+
+// The spaces after a cell's text, and its end: nothing else may be left.
+pub fn close(
+    s: &[u8],
+    q: usize,
+    e: usize,
+    separator: u8,
+    minus: bool,
+    size: u64,
+    decimals: u64,
+) -> Judged
+    requires { ⌜ Stop separator (now s) q e ⌝ }
+    ensures { λ r. ⌜ r ≡ judgedOf (next separator (now (s .entry)) q) (closing (good minus size decimals) (body separator (now (s .entry)) q)) ⌝ }
+{
+    let r = spaces(s, q, e, separator);
+    let b = s[r];
+    if (b == separator) | (b == 10) {
+        Judged {
+            at: r,
+            number: 0,
+            minus,
+            size,
+            decimals,
+        }
+    } else {
+        wrong_cell(s, r, e, separator)
+    }
+}
+
+fn power(n: usize) -> u64
+    requires { ⌜ n ≤ 6 ⌝ }
+    ensures { λ r. ⌜ r ≡ 10 ^ (6 - n) ⌝ }
+{
+    match n {
+        0 => 1000000,
+        1 => 100000,
+        2 => 10000,
+        3 => 1000,
+        4 => 100,
+        5 => 10,
+        _ => 1,
+    }
+}
+
+// The digits and the point, after the sign.
+fn unsigned(s: &[u8], p: usize, e: usize, separator: u8, minus: bool) -> Judged
+    requires { ⌜ Stop separator (now s) p e ⌝ }
+    ensures { λ r. ⌜ r ≡ judgedOf (next separator (now (s .entry)) p) (unsignedOf minus (body separator (now (s .entry)) p)) ⌝ }
+{
+    let w = digits(s, p, e, separator, p + 10, 0);
+    let q = w.at;
+    let v = w.v;
+    if 9 < q - p {
+        return wrong_cell(s, q, e, separator);
+    }
+    if s[q] != 46 {
+        if q == p {
+            return wrong_cell(s, q, e, separator);
+        }
+        return close(s, q, e, separator, minus, v * 1000000, 0);
+    }
+    let f = digits(s, q + 1, e, separator, q + 8, v);
+    let r = f.at;
+    let after = r - (q + 1);
+    if 6 < after {
+        return wrong_cell(s, r, e, separator);
+    }
+    if r - p == 1 {
+        return wrong_cell(s, r, e, separator);
+    }
+    close(s, r, e, separator, minus, f.v * power(after), after as u64)
+}
+
+fn after_sign(a: usize, e: usize, b: u8) -> usize
+    requires { ⌜ a < e ⌝ }
+    ensures { λ r. ⌜ (r ≡ cond (eqb b 45 || eqb b 43) (a + 1) a) × (r ≤ a + 1) ⌝ }
+{
+    if (b == 45) | (b == 43) { a + 1 } else { a }
+}
+
+pub fn decimal(s: &[u8], i: usize, e: usize, separator: u8) -> Judged
+    requires { ⌜ Stop separator (now s) i e ⌝ }
+    ensures { λ r. ⌜ r ≡ judgedOf (next separator (now (s .entry)) i) (unlessBlank decimalOf (trim (cellAt separator (now (s .entry)) i))) ⌝ }
+{
+    let a = spaces(s, i, e, separator);
+    let b = s[a];
+    if (b == separator) | (b == 10) {
+        return blank_cell(s, a, e, separator);
+    }
+    unsigned(s, after_sign(a, e, b), e, separator, b == 45)
+}

@@ -1,0 +1,42 @@
+// The reading of a judged decimal.
+ghost use mathlib.Core.Path.{_≡_};
+ghost use Prim.Native.Nat.{_<_, _^_};
+ghost use lib.IntN.{natAbs};
+ghost use Rattle.text.specs.Reading.{readNumber, readingOf};
+use crate::Judged;
+use crate::Reading;
+use crate::signed_size;
+
+// Missing at -999; else the number itself with its double.
+fn read_number(m: i64) -> Reading
+    requires { ⌜ natAbs m < 10 ^ 15 ⌝ }
+    ensures { λ r. ⌜ r ≡ readNumber m ⌝ }
+{
+    if m == -999000000 {
+        return Reading::Missing;
+    }
+    Reading::Present {
+        millionths: m,
+        value: (m as f64) / 1000000.0,
+    }
+}
+
+pub fn reading_of(j: Judged, kind: u8) -> Reading
+    ensures { λ r. ⌜ r ≡ readingOf kind j ⌝ }
+{
+    if 3 < kind {
+        return Reading::Refused {
+            number: 22,
+            line: 0,
+            column: 0,
+        };
+    }
+    if j.number != 0 {
+        return Reading::Refused {
+            number: j.number,
+            line: 0,
+            column: 0,
+        };
+    }
+    read_number(signed_size(j.minus, j.size))
+}

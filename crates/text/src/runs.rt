@@ -1,0 +1,87 @@
+// Runs of bytes from a place of a line whose line feed is known, so that no scan tests for the end.
+ghost use mathlib.Core.Path.{_≡_};
+ghost use Prim.Native.Nat.{_+_, _^_, _≤_, _<_};
+ghost use Rattle.text.specs.Judge.{stopsAt};
+ghost use Rattle.text.specs.Cells.{next};
+ghost use Rattle.text.specs.Scans.{Stop, Spaced, Counted, Worded};
+
+// The digits passed end at `at` and write v.
+pub struct DigitRun {
+    pub at: usize,
+    pub v: u64,
+}
+
+// Whether a line feed stands at e, at i or after it, and the separator is one of a cell's.
+pub fn stops(s: &[u8], i: usize, e: usize, separator: u8) -> bool
+    ensures { λ r. ⌜ r ≡ stopsAt separator (now (s .entry)) i e ⌝ }
+{
+    if e < i {
+        return false;
+    }
+    if s.len() <= e {
+        return false;
+    }
+    (s[e] == 10) & ((separator == 44) | (separator == 10) | (separator == 9))
+}
+
+pub fn spaces(s: &[u8], i: usize, e: usize, separator: u8) -> usize
+    requires { ⌜ Stop separator (now s) i e ⌝ }
+    ensures { λ r. ⌜ Spaced (now (s .entry)) i e r ⌝ }
+{
+    let mut p = i;
+    while s[p] == 32 {
+        p += 1;
+    }
+    p
+}
+
+// The digits from i on, at most up to limit, written after v0.
+pub fn digits(s: &[u8], i: usize, e: usize, separator: u8, limit: usize, v0: u64) -> DigitRun
+    requires { ⌜ Stop separator (now s) i e × ((i ≤ limit) × (limit ≤ i + 10) × (v0 < 10 ^ 9)) ⌝ }
+    ensures { λ r. ⌜ Counted (now (s .entry)) i e limit v0 (r .at) (r .v) ⌝ }
+{
+    let mut p = i;
+    let mut v = v0;
+    while p < limit {
+        let d = s[p];
+        if d < 48 {
+            return DigitRun { at: p, v };
+        }
+        if 57 < d {
+            return DigitRun { at: p, v };
+        }
+        v = v * 10 + ((d - 48) as u64);
+        p += 1;
+    }
+    DigitRun { at: p, v }
+}
+
+// Where the cell ends that goes on at i.
+pub fn text_end(s: &[u8], i: usize, e: usize, separator: u8) -> usize
+    requires { ⌜ Stop separator (now s) i e ⌝ }
+    ensures { λ r. ⌜ (r ≡ next separator (now (s .entry)) i) × (r ≤ e) ⌝ }
+{
+    let mut p = i;
+    while s[p] != separator {
+        if s[p] == 10 {
+            return p;
+        }
+        p += 1;
+    }
+    p
+}
+
+// Where the bytes of a key text from i on end: a space, a comma, a slash, or the cell's end.
+pub fn word_end(s: &[u8], i: usize, e: usize, separator: u8) -> usize
+    requires { ⌜ Stop separator (now s) i e ⌝ }
+    ensures { λ r. ⌜ Worded separator (now (s .entry)) i e r ⌝ }
+{
+    let mut p = i;
+    loop {
+        let b = s[p];
+        if (b == 44) | (b == 32) | (b == 47) | (b == separator) | (b == 10) {
+            return p;
+        }
+        p += 1;
+    }
+}

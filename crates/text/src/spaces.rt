@@ -1,0 +1,55 @@
+// The spaces at both ends of a text.
+ghost use mathlib.Core.Path.{_≡_};
+ghost use Prim.Native.Nat.{_+_, _-_, _≤_};
+ghost use lib.ListN.{length};
+ghost use lib.Seq.{slice};
+ghost use Rattle.text.specs.Spaces.{back, lead, trimSpan};
+use crate::Span;
+
+// Where the bytes from a to e end without the spaces at their end.
+fn end_of(s: &[u8], a: usize, e: usize) -> usize
+    requires { ⌜ (a ≤ e) × (e ≤ length (now s)) ⌝ }
+    ensures { λ r. ⌜ (r ≡ a + length (back (slice a e (now (s .entry))))) × (a ≤ r) × (r ≤ e) × (back (slice a e (now (s .entry))) ≡ slice a r (now (s .entry))) ⌝ }
+{
+    let mut j = e;
+    while a < j {
+        let k = j - 1;
+        if s[k] != 32 {
+            return j;
+        }
+        j = k;
+    }
+    j
+}
+
+// Where the bytes from a to e start without the spaces at their front.
+fn start_of(s: &[u8], a: usize, e: usize) -> usize
+    requires { ⌜ (a ≤ e) × (e ≤ length (now s)) ⌝ }
+    ensures { λ r. ⌜ (a ≤ r) × (r ≤ e) × (lead (slice a e (now (s .entry))) ≡ slice r e (now (s .entry))) ⌝ }
+{
+    let mut i = a;
+    while i < e {
+        if s[i] != 32 {
+            return i;
+        }
+        i += 1;
+    }
+    i
+}
+
+pub fn span_of(s: &[u8], a: usize, e: usize) -> Span
+    ensures { λ r. ⌜ r ≡ trimSpan (now (s .entry)) a e ⌝ }
+{
+    if e < a {
+        return Span { start: 0, len: 0 };
+    }
+    if s.len() < e {
+        return Span { start: 0, len: 0 };
+    }
+    let z = end_of(s, a, e);
+    let b = start_of(s, a, z);
+    Span {
+        start: b,
+        len: z - b,
+    }
+}
