@@ -8,7 +8,7 @@ use lib.ListN.{length, take, length-take, length-drop}
 use lib.Seq.{take-all}
 use borrow.Author.Tests.{le-leb, lt-leb}
 use Rattle.text.specs.Bytes.{bytes, every, equal}
-use Rattle.text.specs.Names.{nameByte, isName, flagSuffix, parameterLength, beginsCtd}
+use Rattle.text.specs.Names.{nameByte, isName, lastSeven, parameterLength, beginsCtd}
 use Rattle.text.proofs.EqualLaws.{equal-lengths}
 
 module _ (t : List ℕ) where
@@ -24,11 +24,11 @@ module _ (t : List ℕ) where
   unfolding parameterLength
   parameter-short h = rw (lt-leb 8 (length t) h)
 
-  pub parameter-by-suffix : (b : Bool) → 8 ≤ length t → b ≡ equal (take (length t - (length t - 7)) (flagSuffix t)) (bytes "_FLAG_W") → cond b (length t - 7) 0 ≡ parameterLength t
+  pub parameter-by-suffix : (b : Bool) → 8 ≤ length t → b ≡ equal (take (length t - (length t - 7)) (lastSeven t)) (bytes "_FLAG_W") → cond b (length t - 7) 0 ≡ parameterLength t
   unfolding parameterLength
   parameter-by-suffix b h e =
-      let l : length (flagSuffix t) ≤ length t - (length t - 7) = rw length-drop (omega arith) in
-      rw (le-leb 8 (length t) h, e, take-all (length t - (length t - 7)) (flagSuffix t) l)
+      let l : length (lastSeven t) ≤ length t - (length t - 7) = rw length-drop (omega arith) in
+      rw (le-leb 8 (length t) h, e, take-all (length t - (length t - 7)) (lastSeven t) l)
 
   pub ctd-short : length t < 3 → false ≡ beginsCtd t
   unfolding beginsCtd

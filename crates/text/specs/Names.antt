@@ -14,12 +14,12 @@ nameByte x = leb 0x21 x && leb x 0x7e && not (eqb x 44) && not (leb 97 x && leb 
 unfoldable pub isName : List ℕ → Bool
 isName t = leb 1 (length t) && every nameByte t
 
-abbrev pub flagSuffix : List ℕ → List ℕ
-flagSuffix t = drop (length t - 7) t
+abbrev pub lastSeven : List ℕ → List ℕ
+lastSeven t = drop (length t - 7) t
 
 -- a name that ends in _FLAG_W with something before it is a flag column's: how many bytes stand before; 0 for other names
 unfoldable pub parameterLength : List ℕ → ℕ
-parameterLength t = cond (leb 8 (length t) && equal (flagSuffix t) (bytes "_FLAG_W")) (length t - 7) 0
+parameterLength t = cond (leb 8 (length t) && equal (lastSeven t) (bytes "_FLAG_W")) (length t - 7) 0
 
 -- the parameter's name begins with CTD
 unfoldable pub beginsCtd : List ℕ → Bool
