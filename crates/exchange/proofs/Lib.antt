@@ -1,0 +1,13 @@
+pub mod RunLaws
+pub mod AcceptLaws
+pub mod LinePassLaws
+pub mod TopLaws
+pub mod NameLaws
+pub mod HeaderLaws
+pub mod HeaderRunLaws
+pub mod CellsLaws
+pub mod ColumnLaws
+pub mod RowLaws
+pub mod DataLaws
+pub mod AnswerLaws
+pub mod SurveyLaws

@@ -1,0 +1,165 @@
+-- The line pass: plain bytes up to a line feed break no rule of a line; where another byte stands, the line feed is looked for and the rules are read one by one.
+use Prim.Native.Nat.{ℕ, zero, suc, pred, _+_, _-_, min, _≤_, _<_}
+use mathlib.Core.Path.{_≡_, refl}
+use mathlib.Core.List.{List, [], _∷_}
+use mathlib.Core.Bool.{Bool, true, false, cond, _||_, true≢false}
+use native.Mathlib.Omega.{arith}
+use lib.ListN.{length, getD, take, drop, drop-of-length-le}
+use lib.Dec.{eqb, ltb}
+use borrow.Author.Tests.{ne-eqb, ltb-false, lt-ltb, le-ltb, le-leb, lt-leb, not-true}
+use Rattle.text.specs.declared.Found.the-variants.{At, Nowhere}
+use Rattle.text.specs.Bytes.{every}
+use Rattle.text.specs.Cells.{firstPiece, lineAt}
+use Rattle.text.specs.Lines.{character, illFrom, illFormed, firstFrom, returnAt, controlAt}
+use Rattle.text.specs.Scans.{Scan}
+use Rattle.text.proofs.CellLaws.{line-in, line-end}
+use Rattle.text.proofs.ScanLaws.{scan-undo}
+use Rattle.text.proofs.LineLaws.{plain-well-formed, plain-no-return, plain-no-control}
+use Rattle.text.proofs.LineLaws as text
+use Rattle.exchange.specs.declared.lines.Line.{Line}
+use Rattle.exchange.specs.Faults.{clean, breaks}
+use Rattle.exchange.specs.LineRules.{lineRules, unended, foundFault}
+use Rattle.exchange.specs.LineWords.{isPlain, FeedFrom, byteRules}
+use Rattle.exchange.specs.Walks.{lineFault, lineFor, lineOf}
+use Rattle.exchange.proofs.RunLaws.{piece-take}
+
+-- ---- runs of plain bytes
+pub scan-join : {t : ℕ → Bool} {s : List ℕ} {i j k : ℕ} → Scan t s i j → Scan t s j k → Scan t s i k
+scan-join r Scan.still = r
+scan-join r (Scan.more q h e) = Scan.more (scan-join r q) h e
+
+-- one byte more of a block
+pub plain-more : (s : List ℕ) (i k : ℕ) (odd : Bool) → k < length s → (odd ≡ false → Scan isPlain s i k)
+    → (odd || ltb (getD s k 0) 32) || ltb 126 (getD s k 0) ≡ false → Scan isPlain s i (k + 1)
+plain-more s i k true l g e = absurd (true≢false e)
+plain-more s i k false l g e = Scan.more (g refl) l (rw e)
+
+plain-range : (x : ℕ) → isPlain x ≡ true → (32 ≤ x) × (x ≤ 126)
+plain-range x e = go (ltb x 32) (ltb 126 x) refl refl (not-true _ e)
+  where
+    go : (a b : Bool) → ltb x 32 ≡ a → ltb 126 x ≡ b → (a || b) ≡ false → (32 ≤ x) × (x ≤ 126)
+    go true b p q e = absurd (true≢false e)
+    go false true p q e = absurd (true≢false e)
+    go false false p q e = (ltb-false x 32 p, ltb-false 126 x q)
+
+-- up to a line feed: the line, of plain bytes
+plain-up-to : (s : List ℕ) (i q : ℕ) → Scan isPlain s i q → q < length s → getD s q 0 ≡ 10
+    → (every text.isPlain (lineAt s i) ≡ true) × (i + length (lineAt s i) ≡ q)
+unfolding every
+plain-up-to s i q r l f = scan-undo P one r (rw (line-end s q l f) (refl, omega arith))
+  where
+    P : ℕ → Type 0
+    P j = (every text.isPlain (lineAt s j) ≡ true) × (j + length (lineAt s j) ≡ q)
+
+    one : (j : ℕ) → j < length s → isPlain (getD s j 0) ≡ true → P (j + 1) → P j
+    one j h e (a, b) =
+        let w = plain-range (getD s j 0) e in
+        rw (line-in s j h (ne-eqb (getD s j 0) 10 (λ z. omega arith)))
+        (rw (le-leb 32 (getD s j 0) (w .0), le-leb (getD s j 0) 126 (w .1)) a, omega arith)
+
+cond-clean : (b : Bool) → cond b clean clean ≡ clean
+cond-clean true = refl
+cond-clean false = refl
+
+pub line-plain : (control : Bool) (s : List ℕ) (i q : ℕ) → Scan isPlain s i q → q < length s → q ≤ i + 8192 → getD s q 0 ≡ 10
+    → _≡_ {A = Line} (record { end = q; number = 0; column = 0 }) (lineOf control s i)
+unfolding lineOf lineFault lineRules
+line-plain control s i q r l h f =
+    let w = plain-up-to s i q r l f in
+    let x = lineAt s i in
+    rw (w .1, lt-ltb q (length s) l, le-leb (length x) 8192 (omega arith), plain-well-formed x (w .0), plain-no-return x (w .0), plain-no-control x (w .0), cond-clean control)
+
+-- ---- the line feed looked for
+module _ (s : List ℕ) (i : ℕ) (h : i < length s) where
+  pub feed-step : (getD s i 0 ≡ 10 → ⊥) → i + length (lineAt s i) ≡ i + 1 + length (lineAt s (i + 1))
+  feed-step n = rw (line-in s i h (ne-eqb (getD s i 0) 10 n)) (omega arith)
+
+line-none : (s : List ℕ) (i : ℕ) → length s ≤ i → length (lineAt s i) ≡ 0
+unfolding firstPiece
+line-none s i h = rw (drop-of-length-le s h)
+
+line-fed : (s : List ℕ) (i : ℕ) → i < length s → getD s i 0 ≡ 10 → length (lineAt s i) ≡ 0
+line-fed s i h f = rw (line-end s i h f)
+
+module _ (control : Bool) (s : List ℕ) (i e limit : ℕ) (h : i < length s) (k : limit ≡ min (length s) (i + 8193)) (f : FeedFrom s i limit e) where
+  pub odd-long : e - i ≡ 8193 → _≡_ {A = Line} (record { end = 0; number = 1; column = 8193 }) (lineOf control s i)
+  unfolding lineOf lineFault lineRules unended
+  odd-long z = rw (lt-leb (length (lineAt s i)) 8192 (omega (arith, f .same, f .low))) (go (ltb (i + length (lineAt s i)) (length s)))
+    where
+      go : (b : Bool) → _≡_ {A = Line} (record { end = 0; number = 1; column = 8193 }) (lineFor (cond b (breaks 1 8193) (breaks 1 8193)) (i + length (lineAt s i)))
+      go true = refl
+      go false = refl
+
+  pub odd-cut : e ≡ limit → (e - i ≡ 8193 → ⊥) → _≡_ {A = Line} (record { end = 0; number = 2; column = e - i + 1 }) (lineOf control s i)
+  unfolding lineOf lineFault unended
+  odd-cut z n =
+      let a : e ≡ length s = omega (arith, f .low) in
+      let d : length (lineAt s i) ≡ e - i = omega (arith, f .same, f .low, line-none s e (omega arith)) in
+      rw (d, le-ltb (i + (e - i)) (length s) (omega (arith, f .low)), le-leb (e - i) 8192 (omega (arith, f .low)))
+
+  pub odd-fed : (e ≡ limit → ⊥) → lineFor (byteRules control (take (e - i) (drop i s))) e ≡ lineOf control s i
+  unfolding lineOf lineFault lineRules byteRules
+  odd-fed n =
+      let b : e < length s = omega (arith, f .high) in
+      let d : i + length (lineAt s i) ≡ e = omega (arith, f .same, line-fed s e b (f .feed n)) in
+      let u : e - i ≡ length (lineAt s i) = omega arith in
+      rw (u, piece-take, d, lt-ltb e (length s) b, le-leb (length (lineAt s i)) 8192 (omega (arith, f .high)))
+
+-- ---- rules 3, 4 and 5
+first-inside : (p : ℕ → Bool) (xs : List ℕ) (i j : ℕ) → firstFrom p i xs ≡ At j → j < i + length xs
+unfolding firstFrom
+first-inside p [] i j e = let z : _≡_ {A = ℕ} 0 1 = cc in absurd (omega arith)
+first-inside p (x ∷ xs) i j e = go (p x) e (first-inside p xs (suc i) j)
+  where
+    go : (b : Bool) → cond b (At i) (firstFrom p (suc i) xs) ≡ At j → (firstFrom p (suc i) xs ≡ At j → j < suc i + length xs) → j < i + suc (length xs)
+    go true e f = let z : i ≡ j = cc in omega arith
+    go false e f = omega (arith, f e)
+
+ill-inside : (xs : List ℕ) (i k j : ℕ) → illFrom i k xs ≡ At j → j < i + length xs
+unfolding illFrom
+ill-inside [] i k j e = let z : _≡_ {A = ℕ} 0 1 = cc in absurd (omega arith)
+ill-inside (x ∷ xs) i (suc k) j e = omega (arith, ill-inside xs (suc i) k j e)
+ill-inside (x ∷ xs) i zero j e = go (eqb (character (x ∷ xs)) 0) (character (x ∷ xs)) e (λ (m : ℕ). ill-inside xs (suc i) m j)
+  where
+    go : (b : Bool) (m : ℕ) → cond b (At i) (illFrom (suc i) (pred m) xs) ≡ At j → ((m : ℕ) → illFrom (suc i) m xs ≡ At j → j < suc i + length xs) → j < i + suc (length xs)
+    go true m e f = let z : i ≡ j = cc in omega arith
+    go false m e f = omega (arith, f _ e)
+
+-- a byte that is found stands in the line
+module _ (x : List ℕ) (j : ℕ) where
+  pub ill-formed-inside : illFormed x ≡ At j → j < length x
+  unfolding illFormed
+  ill-formed-inside e = omega (arith, ill-inside x 0 0 j e)
+
+  pub return-inside : returnAt x ≡ At j → j < length x
+  unfolding returnAt
+  return-inside e = omega (arith, first-inside _ x 0 j e)
+
+  pub control-inside : controlAt x ≡ At j → j < length x
+  unfolding controlAt
+  control-inside e = omega (arith, first-inside _ x 0 j e)
+
+module _ (control : Bool) (x : List ℕ) (e j : ℕ) where
+  pub bytes-ill-formed : illFormed x ≡ At j → _≡_ {A = Line} (record { end = 0; number = 3; column = j + 1 }) (lineFor (byteRules control x) e)
+  unfolding byteRules
+  bytes-ill-formed a = rw a
+
+  pub bytes-return : illFormed x ≡ Nowhere → returnAt x ≡ At j → _≡_ {A = Line} (record { end = 0; number = 4; column = j + 1 }) (lineFor (byteRules control x) e)
+  unfolding byteRules
+  bytes-return a b = rw (a, b)
+
+  pub bytes-control : illFormed x ≡ Nowhere → returnAt x ≡ Nowhere → control ≡ true → controlAt x ≡ At j
+      → _≡_ {A = Line} (record { end = 0; number = 5; column = j + 1 }) (lineFor (byteRules control x) e)
+  unfolding byteRules
+  bytes-control a b d f = rw (a, b, d, f)
+
+module _ (control : Bool) (x : List ℕ) (e : ℕ) where
+  pub bytes-clean : illFormed x ≡ Nowhere → returnAt x ≡ Nowhere → (control ≡ true → controlAt x ≡ Nowhere)
+      → _≡_ {A = Line} (record { end = e; number = 0; column = 0 }) (lineFor (byteRules control x) e)
+  unfolding byteRules
+  bytes-clean a b f = rw (a, b) (go control f)
+    where
+      go : (c : Bool) → (c ≡ true → controlAt x ≡ Nowhere)
+          → _≡_ {A = Line} (record { end = e; number = 0; column = 0 }) (lineFor (cond c (foundFault 5 (controlAt x)) clean) e)
+      go true f = rw (f refl)
+      go false f = refl

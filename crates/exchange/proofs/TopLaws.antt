@@ -1,0 +1,201 @@
+-- Line 1 and the comment lines: one law for each end of the code's walk.
+use Prim.Native.Nat.{ℕ, suc, _+_, _≤_, _<_}
+use mathlib.Core.Path.{_≡_, refl, sym, ap, _∙_}
+use mathlib.Core.List.{List, [], _∷_, _++_}
+use mathlib.Core.Bool.{Bool, true, false, cond, _&&_, _||_, true≢false}
+use native.Mathlib.Omega.{arith}
+use lib.ListN.{length, getD, take, drop, take-append-drop, length-append, length-take}
+use lib.Seq.{take-all, drop-cons}
+use lib.Dec.{eqb}
+use borrow.Author.Tests.{ne-eqb}
+use Rattle.text.specs.Bytes.{equal}
+use Rattle.text.specs.Cells.{firstPiece, laterPieces, lineAt}
+use Rattle.text.proofs.CellLaws.{line-in}
+use Rattle.text.proofs.EqualLaws.{equal-refl, equal-same, equal-lengths}
+use Rattle.exchange.specs.declared.lines.Line.{Line}
+use Rattle.exchange.specs.declared.top.First.{First}
+use Rattle.exchange.specs.Faults.{clean, breaks, unless}
+use Rattle.exchange.specs.LineRules.{lineRules}
+use Rattle.exchange.specs.Columns.{Sort, bottle, ctd}
+use Rattle.exchange.specs.Places.{first, comments, stopped, stopAt, isMark, isBottle, isCtd, firstRules, firstStep, isComment, commentsStep, step, refused, run, outcomeOf}
+use Rattle.exchange.specs.Walks.{linesFrom, StartsAt, lineOf, sortOf, FirstRead}
+use Rattle.exchange.proofs.RunLaws.{piece-in, piece-take, run-stopped, run-line, line-clean, line-broken, line-broken-here, starts-next}
+
+-- ---- the text before a line's first comma is a word
+-- a word with no comma in it stands before what follows
+piece-append : (c : ℕ) (w z : List ℕ) → firstPiece c w ≡ w → firstPiece c (w ++ z) ≡ w ++ firstPiece c z
+unfolding firstPiece
+piece-append c [] z e = refl
+piece-append c (x ∷ w) z e = go (eqb x c) e (piece-append c w z)
+  where
+    go : (b : Bool) → cond b [] (x ∷ firstPiece c w) ≡ x ∷ w → (firstPiece c w ≡ w → firstPiece c (w ++ z) ≡ w ++ firstPiece c z)
+        → cond b [] (x ∷ firstPiece c (w ++ z)) ≡ x ∷ (w ++ firstPiece c z)
+    go true e f = let h : _≡_ {A = ℕ} 0 1 = cc in absurd (omega arith)
+    go false e f = let h : firstPiece c w ≡ w = cc in rw (f h)
+
+not-true-false : (b : Bool) → (b ≡ true → ⊥) → b ≡ false
+not-true-false true h = absurd (h refl)
+not-true-false false h = refl
+
+append-none : (xs : List ℕ) → xs ++ [] ≡ xs
+append-none [] = refl
+append-none (x ∷ xs) = rw (append-none xs)
+
+module _ (x w : List ℕ) where
+  pub begins-short : length x < length w → false ≡ equal (firstPiece 44 x) w
+  begins-short h = sym (equal-lengths (firstPiece 44 x) w (λ e. omega (arith, piece-in 44 x)))
+
+  pub begins-other : equal (take (length w) x) w ≡ false → false ≡ equal (firstPiece 44 x) w
+  begins-other e = sym (not-true-false _ no-way)
+    where
+      no-way : equal (firstPiece 44 x) w ≡ true → ⊥
+      no-way d =
+          let p = equal-same (firstPiece 44 x) w d in
+          let q : take (length w) x ≡ w = rw p at (piece-take 44 x) in
+          true≢false (sym (rw q (equal-refl w)) ∙ e)
+
+  module _ (f : firstPiece 44 w ≡ w) (e : equal (take (length w) x) w ≡ true) where
+    pub begins-whole : length x ≡ length w → true ≡ equal (firstPiece 44 x) w
+    begins-whole h =
+        let p : x ≡ w = sym (take-all (length w) x (omega arith)) ∙ equal-same (take (length w) x) w e in
+        rw (p, f) (sym (equal-refl w))
+
+    pub begins-comma : length w < length x → eqb (getD x (length w) 0) 44 ≡ equal (firstPiece 44 x) w
+    unfolding firstPiece
+    begins-comma h =
+        let p : x ≡ w ++ getD x (length w) 0 ∷ drop (suc (length w)) x =
+        sym (take-append-drop (length w) x) ∙ rw (equal-same (take (length w) x) w e, drop-cons x (length w) 0 h) in
+        go (eqb (getD x (length w) 0) 44) (ap (firstPiece 44) p ∙ piece-append 44 w (getD x (length w) 0 ∷ drop (suc (length w)) x) f)
+      where
+        go : (b : Bool) → firstPiece 44 x ≡ w ++ cond b [] (getD x (length w) 0 ∷ firstPiece 44 (drop (suc (length w)) x)) → b ≡ equal (firstPiece 44 x) w
+        go true d = rw (d, append-none w) (sym (equal-refl w))
+        go false d = sym (equal-lengths (firstPiece 44 x) w (λ z. omega (arith, simp length-append at (ap length d))))
+
+-- ---- the mark of UTF-8
+pub mark-short : (x : List ℕ) → length x < 3 → false ≡ isMark x
+mark-short x h = sym (equal-lengths (take 3 x) (0xef ∷ 0xbb ∷ 0xbf ∷ []) (λ e. omega (arith, length-take 3 x)))
+
+pub mark-bytes : (x : List ℕ) → 3 ≤ length x → (eqb (getD x 0 0) 0xef && eqb (getD x 1 0) 0xbb) && eqb (getD x 2 0) 0xbf ≡ isMark x
+unfolding equal
+mark-bytes [] h = absurd (omega arith)
+mark-bytes (a ∷ []) h = absurd (omega arith)
+mark-bytes (a ∷ b ∷ []) h = absurd (omega arith)
+mark-bytes (a ∷ b ∷ c ∷ xs) h = go (eqb a 0xef) (eqb b 0xbb) (eqb c 0xbf)
+  where
+    go : (p q r : Bool) → (p && q) && r ≡ p && (q && (r && true))
+    go true true true = refl
+    go true true false = refl
+    go true false r = refl
+    go false q r = refl
+
+-- ---- line 1
+pub first-none : (s : List ℕ) → length s ≡ 0 → outcomeOf s ≡ refused 14 1 1
+unfolding outcomeOf run firstPiece laterPieces
+first-none [] h = refl
+first-none (x ∷ s) h = absurd (omega arith)
+
+first-breaks : (x : List ℕ) (n c : ℕ) → lineRules true x ≡ breaks n c → step 1 first x ≡ stopped n 1 c
+unfolding firstStep
+first-breaks x n c e = rw e
+
+module _ (s : List ℕ) (l : Line) (e : l ≡ lineOf true s 0) where
+  pub first-broken : 0 < length s → (l .number ≡ 0 → ⊥) → outcomeOf s ≡ refused (l .number) 1 (l .column)
+  unfolding outcomeOf
+  first-broken h z = rw e (line-broken 1 first s 0 true h (rw e at z) first-breaks (λ x. refl))
+
+  module _ (z : l .number ≡ 0) where
+    pub first-room : l .end < length s
+    first-room = let w = line-clean true s 0 (rw e at z) in rw e (omega (arith, w .1, w .2))
+
+    -- its text
+    first-text : take (l .end) s ≡ lineAt s 0
+    first-text =
+        let w = line-clean true s 0 (rw e at z) in
+        let d : l .end ≡ length (lineAt s 0) = rw e (omega (arith, w .2)) in
+        rw d (piece-take 10 s)
+
+    first-run : outcomeOf s ≡ run 2 (firstStep 1 (lineAt s 0)) (linesFrom s (l .end + 1))
+    unfolding outcomeOf
+    first-run =
+        let w = line-clean true s 0 (rw e at z) in
+        let d : 0 + length (lineAt s 0) ≡ l .end = rw e (sym (w .2)) in
+        run-line 1 first s 0 (w .1) ∙ rw d
+
+    pub first-counted : StartsAt s 2 (l .end + 1)
+    first-counted =
+        let w = line-clean true s 0 (rw e at z) in
+        let d : 0 + length (lineAt s 0) ≡ l .end = rw e (sym (w .2)) in
+        rw d at (starts-next s 1 0 (omega arith) refl (w .1))
+
+    first-rules : lineRules true (lineAt s 0) ≡ clean
+    first-rules = line-clean true s 0 (rw e at z) .0
+
+    pub first-marked : isMark (take (l .end) s) ≡ true → outcomeOf s ≡ refused 6 1 1
+    unfolding firstStep firstRules
+    first-marked m =
+        let a : isMark (lineAt s 0) ≡ true = rw first-text at m in
+        first-run ∙ rw (first-rules, a) (run-stopped 2 6 1 1 (linesFrom s (l .end + 1)))
+
+    module _ (m : isMark (take (l .end) s) ≡ false) (kind : ℕ) (k : kind ≡ cond (isBottle (take (l .end) s)) 1 (cond (isCtd (take (l .end) s)) 2 0)) where
+      pub first-neither : kind ≡ 0 → outcomeOf s ≡ refused 7 1 1
+      unfolding firstStep firstRules
+      first-neither q =
+          let a : isMark (lineAt s 0) ≡ false = rw first-text at m in
+          let b : kind ≡ cond (isBottle (lineAt s 0)) 1 (cond (isCtd (lineAt s 0)) 2 0) = rw first-text at k in
+          let n = go (isBottle (lineAt s 0)) (isCtd (lineAt s 0)) (sym b ∙ q) in
+          first-run ∙ rw (first-rules, a, n .0, n .1) (run-stopped 2 7 1 1 (linesFrom s (l .end + 1)))
+        where
+          go : (a b : Bool) → _≡_ {A = ℕ} (cond a 1 (cond b 2 0)) 0 → (a ≡ false) × (b ≡ false)
+          go true b h = absurd (omega arith)
+          go false true h = absurd (omega arith)
+          go false false h = (refl, refl)
+
+      pub first-on : (kind ≡ 0 → ⊥) → outcomeOf s ≡ run 2 (comments (sortOf kind)) (linesFrom s (l .end + 1))
+      unfolding firstStep firstRules
+      first-on q =
+          let a : isMark (lineAt s 0) ≡ false = rw first-text at m in
+          let b : kind ≡ cond (isBottle (lineAt s 0)) 1 (cond (isCtd (lineAt s 0)) 2 0) = rw first-text at k in
+          first-run ∙ rw (first-rules, a) (go (isBottle (lineAt s 0)) (isCtd (lineAt s 0)) b)
+        where
+          go : (a b : Bool) → kind ≡ cond a 1 (cond b 2 0)
+              → run 2 (stopAt 1 (unless (a || b) 7 1) (comments (cond a bottle ctd))) (linesFrom s (l .end + 1)) ≡ run 2 (comments (sortOf kind)) (linesFrom s (l .end + 1))
+          go true b h = rw h
+          go false true h = rw h
+          go false false h = absurd (q h)
+
+-- ---- comment lines
+comment-line : (s : List ℕ) (i : ℕ) → i < length s → getD s i 0 ≡ 35 → isComment (lineAt s i) ≡ true
+unfolding equal
+comment-line s i h e = rw (line-in s i h (ne-eqb (getD s i 0) 10 (λ z. omega arith))) (rw e)
+
+module _ (s : List ℕ) (i : ℕ) (h : i < length s) (b : getD s i 0 ≡ 35) (l : Line) (e : l ≡ lineOf false s i) where
+  pub comment-broken : (k : Sort) (n : ℕ) → (l .number ≡ 0 → ⊥) → run n (comments k) (linesFrom s i) ≡ refused (l .number) n (l .column)
+  unfolding commentsStep
+  comment-broken k n z =
+      rw e
+      (line-broken-here false s i n (comments k) h (rw e at z)
+      (λ (m c : ℕ) (d : lineRules false (lineAt s i) ≡ breaks m c). rw (comment-line s i h b, d)) (λ x. refl))
+
+  module _ (z : l .number ≡ 0) where
+    pub comment-room : (i < l .end) × (l .end < length s)
+    comment-room =
+        let w = line-clean false s i (rw e at z) in
+        let d = line-in s i h (ne-eqb (getD s i 0) 10 (λ z. omega arith)) in
+        rw e (omega (arith, w .1, w .2, ap length d), omega (arith, w .1, w .2))
+
+    pub comment-counted : (n : ℕ) → 1 ≤ n → StartsAt s n i → StartsAt s (n + 1) (l .end + 1)
+    comment-counted n o y =
+        let w = line-clean false s i (rw e at z) in
+        let d : i + length (lineAt s i) ≡ l .end = rw e (sym (w .2)) in
+        rw d at (starts-next s n i o y (w .1))
+
+    pub comment-on : (k : Sort) (n : ℕ) → run n (comments k) (linesFrom s i) ≡ run (n + 1) (comments k) (linesFrom s (l .end + 1))
+    unfolding commentsStep
+    comment-on k n =
+        let w = line-clean false s i (rw e at z) in
+        let d : i + length (lineAt s i) ≡ l .end = rw e (sym (w .2)) in
+        run-line n (comments k) s i (w .1) ∙ rw (comment-line s i h b, w .0, d)
+
+-- ---- what the calls promise
+pub first-stopped : (s : List ℕ) (r : First) (n c : ℕ) → r .number ≡ n → r .column ≡ c → (n ≡ 0 → ⊥) → outcomeOf s ≡ refused n 1 c → FirstRead s r
+first-stopped s r n c p q z h = record { stop = λ y. rw (p, q) h; on = λ y. absurd (z (sym p ∙ y)); counted = λ y. absurd (z (sym p ∙ y)) }

@@ -1,0 +1,79 @@
+-- Document 01, "Lines", names line, and "The catalogue": one to 256 names (H), each unique; flag columns and their parameters; the kind of each column.
+-- Cell by cell: 11, 10, 9; then 12 from the left; then 13.
+use Prim.Native.Nat.{ℕ, suc, _+_}
+use mathlib.Core.List.{List, [], _∷_, _++_, map}
+use mathlib.Core.Bool.{Bool, true, false, cond, not, _&&_, _||_}
+use lib.ListN.{length, take}
+use lib.Dec.{leb, ltb, eqb}
+use Rattle.text.specs.Bytes.{bytes, equal}
+use Rattle.text.specs.Cells.{pieces}
+use Rattle.text.specs.Spaces.{trim}
+use Rattle.text.specs.Names.{isName, parameterLength, beginsCtd}
+use Rattle.text.specs.Catalogue.{names, kinds, kindIn}
+use Rattle.exchange.specs.Faults.{Fault, clean, breaks, _then_, unless, member, hasAll}
+use Rattle.exchange.specs.Headers.{stationNames}
+
+-- a bottle or a CTD file
+pub data Sort : Type 0 where
+  bottle ctd : Sort
+
+-- the cells from the one at column c, after the earlier names: 11, 10, 9
+unfoldable pub nameFaults : ℕ → List (List ℕ) → List (List ℕ) → Fault
+nameFaults c earlier [] = clean
+nameFaults c earlier (t ∷ ts) =
+    unless (ltb (length earlier) 256) 11 c
+    then unless (isName (trim t)) 10 c
+    then unless (not (member (trim t) earlier)) 9 c
+    then nameFaults (c + length t + 1) (earlier ++ trim t ∷ []) ts
+
+-- a flag column's name, and its parameter's
+abbrev pub isFlag : List ℕ → Bool
+isFlag n = ltb 0 (parameterLength n)
+
+abbrev pub parameterOf : List ℕ → List ℕ
+parameterOf n = take (parameterLength n) n
+
+-- what stands before _FLAG_W is another column of the line and no flag column
+unfoldable pub hasParameter : List (List ℕ) → List ℕ → Bool
+hasParameter ns n = not (isFlag (parameterOf n)) && member (parameterOf n) ns
+
+-- 12 from the left, among the names ns
+unfoldable pub flagFaults : ℕ → List (List ℕ) → List (List ℕ) → Fault
+flagFaults c ns [] = clean
+flagFaults c ns (t ∷ ts) = unless (not (isFlag (trim t)) || hasParameter ns (trim t)) 12 c then flagFaults (c + length t + 1) ns ts
+
+-- 13: the required names of the line
+abbrev pub requiredNames : Sort → List (List ℕ)
+requiredNames bottle = stationNames
+requiredNames ctd = bytes "CTDPRS" ∷ []
+
+abbrev pub namesOf : List ℕ → List (List ℕ)
+namesOf x = map trim (pieces 44 x)
+
+unfoldable pub namesRules : Sort → List ℕ → Fault
+namesRules k x =
+    nameFaults 1 [] (pieces 44 x)
+    then flagFaults 1 (namesOf x) (pieces 44 x)
+    then unless (hasAll (requiredNames k) (namesOf x)) 13 1
+
+-- the record of a column: its kind (text's numbers), and the place of its flag column from 1, 0 where it has none
+pub record Column : Type 0 where
+  pub kind : ℕ
+  pub flag : ℕ
+
+unfoldable pub kindOfName : List ℕ → ℕ
+kindOfName n = cond (isFlag n) (cond (beginsCtd (parameterOf n)) 5 4) (kindIn names kinds n)
+
+-- the place of the flag column of n, the first of the list standing at place k
+unfoldable pub flagFrom : ℕ → List ℕ → List (List ℕ) → ℕ
+flagFrom k n [] = 0
+flagFrom k n (x ∷ xs) = cond (isFlag x && equal (parameterOf x) n) k (flagFrom (k + 1) n xs)
+
+abbrev pub columnOf : List (List ℕ) → List ℕ → Column
+columnOf ns n = record { kind = kindOfName n; flag = flagFrom 1 n ns }
+
+abbrev pub columnsOf : List (List ℕ) → List Column
+columnsOf ns = map (columnOf ns) ns
+
+abbrev pub kindsOf : List (List ℕ) → List ℕ
+kindsOf ns = map kindOfName ns

@@ -1,0 +1,36 @@
+-- Document 01, "Refusal numbers": a line keeps its rules, or breaks one, with its number and the column shown; of two rules the first broken one counts.
+use Prim.Native.Nat.{ℕ}
+use mathlib.Core.List.{List, [], _∷_}
+use mathlib.Core.Bool.{Bool, true, false, cond, _||_, _&&_}
+use Rattle.text.specs.Bytes.{equal}
+use Rattle.text.specs.Decimals.{Verdict, blank, wrong, outOfRange, good}
+
+pub data Fault : Type 0 where
+  clean : Fault
+  breaks : (number column : ℕ) → Fault
+
+infixr 4 _then_
+abbrev pub _then_ : Fault → Fault → Fault
+clean then g = g
+(breaks n c) then g = breaks n c
+
+-- broken by n, shown at column c, unless b
+abbrev pub unless : Bool → ℕ → ℕ → Fault
+unless b n c = cond b clean (breaks n c)
+
+-- rules 17, 16 and 18 of a text judged by its kind
+abbrev pub kindFault : Verdict → ℕ → Fault
+kindFault blank c = breaks 17 c
+kindFault wrong c = breaks 16 c
+kindFault outOfRange c = breaks 18 c
+kindFault (good m v d) c = clean
+
+-- a name is one of a list
+unfoldable pub member : List ℕ → List (List ℕ) → Bool
+member n [] = false
+member n (x ∷ xs) = equal x n || member n xs
+
+-- all of some names are
+unfoldable pub hasAll : List (List ℕ) → List (List ℕ) → Bool
+hasAll [] xs = true
+hasAll (n ∷ ns) xs = member n xs && hasAll ns xs

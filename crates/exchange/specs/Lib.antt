@@ -1,0 +1,15 @@
+pub mod Faults
+pub mod LineRules
+pub mod Headers
+pub mod Columns
+pub mod Rows
+pub mod Places
+pub mod Profiles
+pub mod Answers
+pub mod Walks
+pub mod LineWords
+pub mod NameWords
+pub mod HeadersWords
+pub mod ColumnWords
+pub mod RowsWords
+pub mod SurveyWords

@@ -1,0 +1,28 @@
+-- Document 01, "Lines" and rules 1 to 5: a line is at most 8,192 bytes (H), has its line feed, is well-formed UTF-8, has no byte 0D and,
+-- where that is asked, no byte below 20 and no 7F.
+use Prim.Native.Nat.{ℕ, _+_}
+use mathlib.Core.List.{List}
+use mathlib.Core.Bool.{Bool, cond}
+use lib.ListN.{length}
+use lib.Dec.{leb}
+use Rattle.text.specs.declared.Found.{Found}
+use Rattle.text.specs.declared.Found.the-variants.{At, Nowhere}
+use Rattle.text.specs.Lines.{illFormed, returnAt, controlAt}
+use Rattle.exchange.specs.Faults.{Fault, clean, breaks, _then_, unless}
+
+-- the column of a byte that is found is counted from 1
+abbrev pub foundFault : ℕ → Found → Fault
+foundFault n (At i) = breaks n (i + 1)
+foundFault n Nowhere = clean
+
+abbrev pub tooLong : List ℕ → Fault
+tooLong x = unless (leb (length x) 8192) 1 8193
+
+-- a line that has its line feed
+unfoldable pub lineRules : Bool → List ℕ → Fault
+lineRules control x =
+    tooLong x then foundFault 3 (illFormed x) then foundFault 4 (returnAt x) then cond control (foundFault 5 (controlAt x)) clean
+
+-- the last line, where it has none: 1 or 2, one past its end
+unfoldable pub unended : List ℕ → Fault
+unended x = tooLong x then breaks 2 (length x + 1)

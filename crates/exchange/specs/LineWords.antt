@@ -1,0 +1,33 @@
+-- The words of the contracts of the code's line pass; no promise of a public call cites them.
+use Prim.Native.Nat.{ℕ, _+_, _≤_}
+use mathlib.Core.Path.{_≡_}
+use mathlib.Core.List.{List}
+use mathlib.Core.Bool.{Bool, cond, not, _||_}
+use lib.ListN.{length, getD}
+use lib.Dec.{ltb}
+use Rattle.text.specs.Cells.{lineAt}
+use Rattle.text.specs.Lines.{illFormed, returnAt, controlAt}
+use Rattle.text.specs.Scans.{Scan}
+use Rattle.exchange.specs.Faults.{Fault, clean, _then_}
+use Rattle.exchange.specs.LineRules.{foundFault}
+
+-- bytes 20 to 7E
+abbrev pub isPlain : ℕ → Bool
+isPlain x = not (ltb x 32 || ltb 126 x)
+
+-- from i up to r, which is not past the limit, all bytes are plain
+pub record Plain (s : List ℕ) (i limit r : ℕ) : Type 0 where
+  pub low : i ≤ r
+  pub high : r ≤ limit
+  pub over : Scan isPlain s i r
+
+-- the line that goes on at i goes on at r; a line feed stands there, or r is the limit
+pub record FeedFrom (s : List ℕ) (i limit r : ℕ) : Type 0 where
+  pub low : i ≤ r
+  pub high : r ≤ limit
+  pub same : i + length (lineAt s i) ≡ r + length (lineAt s r)
+  pub feed : (r ≡ limit → ⊥) → getD s r 0 ≡ 10
+
+-- rules 3, 4 and, where it is asked, 5
+unfoldable pub byteRules : Bool → List ℕ → Fault
+byteRules control x = foundFault 3 (illFormed x) then foundFault 4 (returnAt x) then cond control (foundFault 5 (controlAt x)) clean

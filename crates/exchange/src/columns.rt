@@ -1,0 +1,202 @@
+// The names line: the columns of the table.
+ghost use mathlib.Core.Path.{_≡_};
+ghost use mathlib.Core.Bool.{cond};
+ghost use Prim.Native.Nat.{_+_, _≤_, _<_};
+ghost use mathlib.Core.List.{[]};
+ghost use lib.ListN.{length, getD};
+ghost use Rattle.text.specs.Cells.{lineAt, pieces, next};
+ghost use Rattle.text.specs.Names.{beginsCtd};
+ghost use Rattle.exchange.specs.declared.names.NameFault.the-variants.{Clean};
+ghost use Rattle.exchange.specs.Faults.{hasAll};
+ghost use Rattle.exchange.specs.Columns.{Sort, namesOf, requiredNames};
+ghost use Rattle.exchange.specs.NameWords.{faultIn};
+ghost use Rattle.exchange.specs.ColumnWords.{Ends, Placed, CellsFound, KindsRead, parameterPlace};
+ghost use Rattle.exchange.specs.Walks.{ColumnsRead, sortFor, namesAt};
+use crate::names::NameFault;
+use crate::names::first_fault;
+use crate::names::has_station;
+use crate::names::name_at;
+use crate::names::place_of;
+
+// The most columns.
+pub const MOST_COLUMNS: usize = 256;
+
+// The cells of the names line, 256 at the most; where there is one more, it starts at `over`.
+pub struct Cells {
+    pub count: usize,
+    pub starts: [usize; 256],
+    pub ends: [usize; 256],
+    pub over: usize,
+}
+
+// The columns: the kind of each, and the place of its flag column from 1, 0 where it has none. Or the first broken rule.
+pub struct Columns {
+    pub number: u64,
+    pub column: u64,
+    pub count: usize,
+    pub kinds: [u8; 256],
+    pub flags: [u16; 256],
+}
+
+// Where the cell ends that goes on at i, in a line that ends at e.
+fn cell_end(s: &[u8], i: usize, e: usize) -> usize
+    requires { ⌜ Ends (now s) i e ⌝ }
+    ensures { λ r. ⌜ r ≡ next 44 (now (s .entry)) i ⌝ }
+{
+    let mut p = i;
+    while p < e {
+        if s[p] == 44 {
+            return p;
+        }
+        p += 1;
+    }
+    p
+}
+
+// The cells of the line from `at` to its line feed at e.
+pub fn cells_of(s: &[u8], at: usize, e: usize) -> Cells
+    requires { ⌜ Ends (now s) at e ⌝ }
+    ensures { λ r. ⌜ CellsFound (now (s .entry)) at r ⌝ }
+{
+    let mut starts = [0usize; 256];
+    let mut ends = [0usize; 256];
+    let mut i = at;
+    let mut count = 0;
+    while count < 256 {
+        let q = cell_end(s, i, e);
+        starts[count] = i;
+        ends[count] = q;
+        count += 1;
+        if q == e {
+            return Cells {
+                count,
+                starts,
+                ends,
+                over: 0,
+            };
+        }
+        i = q + 1;
+    }
+    Cells {
+        count,
+        starts,
+        ends,
+        over: i,
+    }
+}
+
+// The place of the parameter of the flag column whose name begins with it: a column of that name that is no flag column; n where there is none.
+fn parameter_place<'a>(
+    s: &'a [u8],
+    starts: &'a [usize],
+    ends: &'a [usize],
+    n: usize,
+    parameter: &'a [u8],
+) -> usize
+    requires { ⌜ (n ≤ length (now starts)) × (n ≤ length (now ends)) ⌝ }
+    ensures { λ r. ⌜ r ≡ parameterPlace (now (parameter .entry)) (namesAt (now (s .entry)) n (now (starts .entry)) (now (ends .entry))) ⌝ }
+{
+    if 0 < text::parameter_length(parameter) {
+        return n;
+    }
+    place_of(s, starts, ends, n, parameter)
+}
+
+fn flag_kind(parameter: &[u8]) -> u8
+    ensures { λ r. ⌜ r ≡ cond (beginsCtd (now (parameter .entry))) 5 4 ⌝ }
+{
+    if text::begins_ctd(parameter) { 5 } else { 4 }
+}
+
+fn columns_refused(number: u64, column: u64) -> Columns
+    ensures { λ r. ⌜ (r .number ≡ number) × (r .column ≡ column) ⌝ }
+{
+    Columns {
+        number,
+        column,
+        count: 0,
+        kinds: [0; 256],
+        flags: [0; 256],
+    }
+}
+
+// The kinds of n good names, and rule 12 from the left; the line starts at `at`.
+fn kinds_of<'a>(s: &'a [u8], at: usize, starts: &'a [usize], ends: &'a [usize], n: usize) -> Columns
+    requires { ⌜ (Placed (now s) at n (now starts) (now ends)) × (n ≡ length (pieces 44 (lineAt (now s) at))) × (faultIn [] (namesOf (lineAt (now s) at)) 0 ≡ Clean) ⌝ }
+    ensures { λ r. ⌜ KindsRead (lineAt (now (s .entry)) at) r ⌝ }
+{
+    let listed = text::catalogue_names();
+    let of = text::catalogue_kinds();
+    let mut kinds = [0u8; 256];
+    let mut flags = [0u16; 256];
+    let mut k = 0;
+    while k < n {
+        let name = name_at(s, starts, ends, k);
+        let p = text::parameter_length(name);
+        if p == 0 {
+            kinds[k] = text::kind_of(&listed, &of, name);
+        } else {
+            let parameter = &name[..p];
+            let j = parameter_place(s, starts, ends, n, parameter);
+            if j == n {
+                return columns_refused(12, ((starts[k] - at) as u64) + 1);
+            }
+            kinds[k] = flag_kind(parameter);
+            flags[j] = (k as u16) + 1;
+        }
+        k += 1;
+    }
+    Columns {
+        number: 0,
+        column: 0,
+        count: n,
+        kinds,
+        flags,
+    }
+}
+
+// Rule 13 of the names line: the station names in a bottle file, CTDPRS in a CTD file.
+fn has_required<'a>(
+    s: &'a [u8],
+    starts: &'a [usize],
+    ends: &'a [usize],
+    n: usize,
+    bottle: bool,
+) -> bool
+    requires { ⌜ (n ≤ length (now starts)) × (n ≤ length (now ends)) ⌝ }
+    ensures { λ r. ⌜ r ≡ hasAll (requiredNames (sortFor bottle)) (namesAt (now (s .entry)) n (now (starts .entry)) (now (ends .entry))) ⌝ }
+{
+    if bottle {
+        has_station(s, starts, ends, n)
+    } else {
+        place_of(s, starts, ends, n, b"CTDPRS") < n
+    }
+}
+
+// The rules of the names line that starts at `at` and ends at e.
+pub fn read_columns(s: &[u8], at: usize, e: usize, bottle: bool) -> Columns
+    requires { ⌜ (e < length (now s)) × (e ≡ at + length (lineAt (now s) at)) ⌝ }
+    ensures { λ r. ⌜ ColumnsRead (sortFor bottle) (lineAt (now (s .entry)) at) r ⌝ }
+{
+    let c = cells_of(s, at, e);
+    let starts = c.starts;
+    let ends = c.ends;
+    match first_fault(s, &starts, &ends, c.count) {
+        NameFault::Bad(k) => columns_refused(10, ((starts[k] - at) as u64) + 1),
+        NameFault::Repeated(k) => columns_refused(9, ((starts[k] - at) as u64) + 1),
+        NameFault::Clean => {
+            if c.over != 0 {
+                return columns_refused(11, ((c.over - at) as u64) + 1);
+            }
+            let r = kinds_of(s, at, &starts, &ends, c.count);
+            if r.number != 0 {
+                return r;
+            }
+            if has_required(s, &starts, &ends, c.count, bottle) {
+                r
+            } else {
+                columns_refused(13, 1)
+            }
+        }
+    }
+}

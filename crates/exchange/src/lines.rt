@@ -1,0 +1,195 @@
+// The lines of a file: where each ends, and rules 1 to 5.
+ghost use mathlib.Core.Path.{_≡_};
+ghost use mathlib.Core.Bool.{false};
+ghost use Prim.Native.Nat.{_+_, min, _≤_, _<_};
+ghost use lib.ListN.{length};
+ghost use Rattle.text.specs.Scans.{Scan};
+ghost use Rattle.exchange.specs.LineWords.{isPlain, Plain, FeedFrom, byteRules};
+ghost use Rattle.exchange.specs.Walks.{lineFor, lineOf};
+use text::Found;
+
+// The most bytes of a line.
+pub const MOST_BYTES: usize = 8192;
+
+// A line: its line feed at `end`; or the first of rules 1 to 5 that it breaks and the column shown, the number being 0 where it breaks none.
+pub struct Line {
+    pub end: usize,
+    pub number: u64,
+    pub column: u64,
+}
+
+// Whether one of the 32 bytes from i on is not one of 20 to 7E.
+fn odd_in_32(s: &[u8], i: usize) -> bool
+    requires { ⌜ i + 32 ≤ length (now s) ⌝ }
+    ensures { λ r. ⌜ (r ≡ false → Scan isPlain (now (s .entry)) i (i + 32)) ⌝ }
+{
+    let end = i + 32;
+    let mut k = i;
+    let mut odd = false;
+    while k < end {
+        odd = odd | (s[k] < 32) | (126 < s[k]);
+        k += 1;
+    }
+    odd
+}
+
+fn odd_in_8(s: &[u8], i: usize) -> bool
+    requires { ⌜ i + 8 ≤ length (now s) ⌝ }
+    ensures { λ r. ⌜ (r ≡ false → Scan isPlain (now (s .entry)) i (i + 8)) ⌝ }
+{
+    let end = i + 8;
+    let mut k = i;
+    let mut odd = false;
+    while k < end {
+        odd = odd | (s[k] < 32) | (126 < s[k]);
+        k += 1;
+    }
+    odd
+}
+
+fn past_32(s: &[u8], at: usize, limit: usize) -> usize
+    requires { ⌜ (at ≤ limit) × (limit ≤ length (now s)) ⌝ }
+    ensures { λ r. ⌜ Plain (now (s .entry)) at limit r ⌝ }
+{
+    let mut i = at;
+    while 32 <= limit - i {
+        if odd_in_32(s, i) {
+            return i;
+        }
+        i += 32;
+    }
+    i
+}
+
+fn past_8(s: &[u8], at: usize, limit: usize) -> usize
+    requires { ⌜ (at ≤ limit) × (limit ≤ length (now s)) ⌝ }
+    ensures { λ r. ⌜ Plain (now (s .entry)) at limit r ⌝ }
+{
+    let mut i = at;
+    while 8 <= limit - i {
+        if odd_in_8(s, i) {
+            return i;
+        }
+        i += 8;
+    }
+    i
+}
+
+// The first byte from at on and below limit that is not one of 20 to 7E; limit where there is none.
+fn first_odd(s: &[u8], at: usize, limit: usize) -> usize
+    requires { ⌜ (at ≤ limit) × (limit ≤ length (now s)) ⌝ }
+    ensures { λ r. ⌜ Plain (now (s .entry)) at limit r ⌝ }
+{
+    let from = past_8(s, past_32(s, at, limit), limit);
+    let mut i = from;
+    while i < limit {
+        if (s[i] < 32) | (126 < s[i]) {
+            return i;
+        }
+        i += 1;
+    }
+    i
+}
+
+// The first line feed from at on and below limit; limit where there is none.
+fn feed_from(s: &[u8], at: usize, limit: usize) -> usize
+    requires { ⌜ (at ≤ limit) × (limit ≤ length (now s)) ⌝ }
+    ensures { λ r. ⌜ FeedFrom (now (s .entry)) at limit r ⌝ }
+{
+    let mut i = at;
+    while i < limit {
+        if s[i] == 10 {
+            return i;
+        }
+        i += 1;
+    }
+    i
+}
+
+// Where the search for the end of the line that starts at `at` ends: past as many bytes as a line may have, and one more.
+fn limit_of(n: usize, at: usize) -> usize
+    requires { ⌜ at ≤ n ⌝ }
+    ensures { λ r. ⌜ r ≡ min n (at + 8193) ⌝ }
+{
+    if MOST_BYTES < n - at {
+        at + MOST_BYTES + 1
+    } else {
+        n
+    }
+}
+
+// The first broken rule of 3, 4 and, where it is asked, 5.
+fn byte_rules(line: &[u8], end: usize, control: bool) -> Line
+    ensures { λ r. ⌜ r ≡ lineFor (byteRules control (now (line .entry))) end ⌝ }
+{
+    if let Found::At(i) = text::ill_formed(line) {
+        return Line {
+            end: 0,
+            number: 3,
+            column: (i as u64) + 1,
+        };
+    }
+    if let Found::At(i) = text::first_return(line) {
+        return Line {
+            end: 0,
+            number: 4,
+            column: (i as u64) + 1,
+        };
+    }
+    if control {
+        if let Found::At(i) = text::first_control(line) {
+            return Line {
+                end: 0,
+                number: 5,
+                column: (i as u64) + 1,
+            };
+        }
+    }
+    Line {
+        end,
+        number: 0,
+        column: 0,
+    }
+}
+
+// A line with a byte other than 20 to 7E.
+fn odd_line(s: &[u8], at: usize, limit: usize, control: bool) -> Line
+    requires { ⌜ (at < length (now s)) × (limit ≡ min (length (now s)) (at + 8193)) ⌝ }
+    ensures { λ r. ⌜ r ≡ lineOf control (now (s .entry)) at ⌝ }
+{
+    let e = feed_from(s, at, limit);
+    if e == limit {
+        if e - at == MOST_BYTES + 1 {
+            return Line {
+                end: 0,
+                number: 1,
+                column: 8193,
+            };
+        }
+        return Line {
+            end: 0,
+            number: 2,
+            column: ((e - at) as u64) + 1,
+        };
+    }
+    byte_rules(&s[at..e], e, control)
+}
+
+// The line that starts at `at`, by rules 1 to 4, and 5 where it is asked.
+pub fn line_at(s: &[u8], at: usize, control: bool) -> Line
+    requires { ⌜ at < length (now s) ⌝ }
+    ensures { λ r. ⌜ r ≡ lineOf control (now (s .entry)) at ⌝ }
+{
+    let limit = limit_of(s.len(), at);
+    let o = first_odd(s, at, limit);
+    if o < limit {
+        if s[o] == 10 {
+            return Line {
+                end: o,
+                number: 0,
+                column: 0,
+            };
+        }
+    }
+    odd_line(s, at, limit, control)
+}

@@ -1,0 +1,139 @@
+// Line 1, the comment lines, and the headers of a CTD file.
+ghost use mathlib.Core.Path.{_≡_};
+ghost use mathlib.Core.Bool.{cond};
+ghost use Prim.Native.Nat.{_+_, _≤_};
+ghost use lib.ListN.{length};
+ghost use Rattle.text.specs.Bytes.{equal};
+ghost use Rattle.text.specs.Cells.{firstPiece};
+ghost use Rattle.exchange.specs.Places.{isMark, isBottle, isCtd};
+ghost use Rattle.exchange.specs.Walks.{FirstRead, CommentsRead};
+use crate::lines::line_at;
+
+// A place of the file: the next line starts at `at` and has that number; or the first broken rule.
+pub struct Walk {
+    pub at: usize,
+    pub line: u64,
+    pub number: u64,
+    pub column: u64,
+}
+
+// What line 1 says: 1 a bottle file, 2 a CTD file, 0 neither.
+pub fn kind_of_first(line: &[u8]) -> u8
+    ensures { λ r. ⌜ r ≡ cond (isBottle (now (line .entry))) 1 (cond (isCtd (now (line .entry))) 2 0) ⌝ }
+{
+    if begins(line, b"BOTTLE") {
+        return 1;
+    }
+    if begins(line, b"CTD") {
+        return 2;
+    }
+    0
+}
+
+// Whether the line is the word, or the word and a comma and anything.
+fn begins<'a>(line: &'a [u8], word: &'a [u8]) -> bool
+    requires { ⌜ firstPiece 44 (now word) ≡ now word ⌝ }
+    ensures { λ r. ⌜ r ≡ equal (firstPiece 44 (now (line .entry))) (now (word .entry)) ⌝ }
+{
+    let n = word.len();
+    if line.len() < n {
+        return false;
+    }
+    if !text::same(&line[..n], word) {
+        return false;
+    }
+    if line.len() == n {
+        return true;
+    }
+    line[n] == 44
+}
+
+fn is_mark(line: &[u8]) -> bool
+    ensures { λ r. ⌜ r ≡ isMark (now (line .entry)) ⌝ }
+{
+    if line.len() < 3 {
+        return false;
+    }
+    (line[0] == 0xef) & (line[1] == 0xbb) & (line[2] == 0xbf)
+}
+
+// Line 1 read: the next line starts at `at`; or the first broken rule.
+pub struct First {
+    pub at: usize,
+    pub number: u64,
+    pub column: u64,
+    pub kind: u8,
+}
+
+fn first_refused(number: u64, column: u64) -> First
+    ensures { λ r. ⌜ (r .number ≡ number) × (r .column ≡ column) ⌝ }
+{
+    First {
+        at: 0,
+        number,
+        column,
+        kind: 0,
+    }
+}
+
+pub fn first_line(s: &[u8]) -> First
+    ensures { λ r. ⌜ FirstRead (now (s .entry)) r ⌝ }
+{
+    if s.len() == 0 {
+        return first_refused(14, 1);
+    }
+    let l = line_at(s, 0, true);
+    if l.number != 0 {
+        return first_refused(l.number, l.column);
+    }
+    let e = l.end;
+    if is_mark(&s[..e]) {
+        return first_refused(6, 1);
+    }
+    let kind = kind_of_first(&s[..e]);
+    if kind == 0 {
+        return first_refused(7, 1);
+    }
+    First {
+        at: e + 1,
+        number: 0,
+        column: 0,
+        kind,
+    }
+}
+
+// The comment lines from `at` on: the walk ends at the first line that is none.
+pub fn comments(s: &[u8], start: usize, first: u64) -> Walk
+    requires { ⌜ (start ≤ length (now s)) × (first ≤ start + 2) ⌝ }
+    ensures { λ r. ⌜ CommentsRead (now (s .entry)) start first r ⌝ }
+{
+    let mut at = start;
+    let mut line = first;
+    while at < s.len() {
+        if s[at] != 35 {
+            return Walk {
+                at,
+                line,
+                number: 0,
+                column: 0,
+            };
+        }
+        let l = line_at(s, at, false);
+        if l.number != 0 {
+            return Walk {
+                at,
+                line,
+                number: l.number,
+                column: l.column,
+            };
+        }
+        at = l.end + 1;
+        line += 1;
+    }
+    Walk {
+        at,
+        line,
+        number: 0,
+        column: 0,
+    }
+}
