@@ -11,3 +11,6 @@ pub mod RowLaws
 pub mod DataLaws
 pub mod AnswerLaws
 pub mod SurveyLaws
+pub mod PlaceLaws
+pub mod GridLaws
+pub mod AskLaws

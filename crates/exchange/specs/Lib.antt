@@ -4,6 +4,7 @@ pub mod Headers
 pub mod Columns
 pub mod Rows
 pub mod Places
+pub mod Grid
 pub mod Profiles
 pub mod Answers
 pub mod Walks
@@ -13,3 +14,4 @@ pub mod HeadersWords
 pub mod ColumnWords
 pub mod RowsWords
 pub mod SurveyWords
+pub mod AskWords

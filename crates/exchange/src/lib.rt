@@ -1,11 +1,15 @@
-// A WHP-Exchange file: its lines, places, headers, columns and rows, and the check of the whole.
+// A WHP-Exchange file: its lines, places, headers, columns and rows; the check, and the calls that read.
 ghost use mathlib.Core.Path.{_≡_};
-ghost use Rattle.exchange.specs.Answers.{checkedOf};
+ghost use Rattle.text.specs.Spaces.{IsPart};
+ghost use Rattle.exchange.specs.Answers.{checkedOf, cellOf, refusalBy, askedOf, readingFor, flaggedOf};
+use text::Reading;
 
+mod asking;
 mod columns;
 mod headers;
 mod lines;
 mod names;
+mod places;
 mod rows;
 mod survey;
 mod top;
@@ -27,6 +31,14 @@ pub struct Checked {
     pub rows: u64,
     pub profiles: u64,
     pub missing: u64,
+}
+
+// A flag, or the refusal.
+pub struct Flagged {
+    pub number: u64,
+    pub line: u64,
+    pub column: u64,
+    pub flag: u64,
 }
 
 // Checks a file.
@@ -67,5 +79,63 @@ pub fn check(file: &[u8]) -> Checked
         rows: v.rows,
         profiles: 1,
         missing: v.missing,
+    }
+}
+
+// The trimmed cell, a part of the file itself; refusal gets number, line and column.
+pub fn cell<'a>(file: &'a [u8], row: u64, column: u64, refusal: &mut [u64; 3]) -> &'a [u8]
+    ensures { λ r. ⌜ IsPart (file .entry) r (cellOf (now (file .entry)) row column) ⌝ }
+    ensures { λ r. ⌜ now (refusal .exit) ≡ refusalBy (askedOf (now (file .entry)) row column) ⌝ }
+{
+    let a = asking::ask(file, row, column);
+    *refusal = [a.number, a.line, a.column];
+    if a.number != 0 {
+        return &file[..0];
+    }
+    text::trimmed(file, a.start, a.start + a.len)
+}
+
+// The reading of a decimal column.
+pub fn decimal(file: &[u8], row: u64, column: u64) -> Reading
+    ensures { λ r. ⌜ r ≡ readingFor (now (file .entry)) row column ⌝ }
+{
+    let a = asking::ask(file, row, column);
+    if a.number != 0 {
+        return Reading::Refused {
+            number: a.number,
+            line: a.line,
+            column: a.column,
+        };
+    }
+    text::read_decimal(file, a.start, a.feed, 44, a.kind)
+}
+
+// The flag of a flag column.
+pub fn flag(file: &[u8], row: u64, column: u64) -> Flagged
+    ensures { λ r. ⌜ r ≡ flaggedOf (now (file .entry)) row column ⌝ }
+{
+    let a = asking::ask(file, row, column);
+    if a.number != 0 {
+        return Flagged {
+            number: a.number,
+            line: a.line,
+            column: a.column,
+            flag: 0,
+        };
+    }
+    if (a.kind == 4) | (a.kind == 5) {
+        let j = text::judge(file, a.start, a.feed, 44, a.kind);
+        return Flagged {
+            number: 0,
+            line: 0,
+            column: 0,
+            flag: j.size,
+        };
+    }
+    Flagged {
+        number: 22,
+        line: 0,
+        column: 0,
+        flag: 0,
     }
 }

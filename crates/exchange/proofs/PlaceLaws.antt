@@ -39,8 +39,8 @@ skip-starts (suc k) (x ∷ xs) = go (eqb x 10) (skip-starts k xs) (skip-starts (
     go : (b : Bool) → skip k xs ≡ cond (ltb k (length (pieces 10 xs))) (starts (map length (pieces 10 xs)) k) (length xs)
         → skip (suc k) xs ≡ cond (ltb (suc k) (length (pieces 10 xs))) (starts (map length (pieces 10 xs)) (suc k)) (length xs)
         → suc (cond b (skip k xs) (skip (suc k) xs))
-          ≡ cond (ltb (suc k) (length {A = List ℕ} (cond b [] (x ∷ firstPiece 10 xs) ∷ cond b (firstPiece 10 xs ∷ laterPieces 10 xs) (laterPieces 10 xs))))
-              (starts (map length (cond b [] (x ∷ firstPiece 10 xs) ∷ cond b (firstPiece 10 xs ∷ laterPieces 10 xs) (laterPieces 10 xs))) (suc k)) (suc (length xs))
+        ≡ cond (ltb (suc k) (length {A = List ℕ} (cond b [] (x ∷ firstPiece 10 xs) ∷ cond b (firstPiece 10 xs ∷ laterPieces 10 xs) (laterPieces 10 xs))))
+        (starts (map length (cond b [] (x ∷ firstPiece 10 xs) ∷ cond b (firstPiece 10 xs ∷ laterPieces 10 xs) (laterPieces 10 xs))) (suc k)) (suc (length xs))
     go true p q = ap suc p ∙ rw (suc-less k (suc (length (laterPieces 10 xs)))) (suc-cond (ltb k (suc (length (laterPieces 10 xs)))) _ _ _ _ (omega arith) refl)
     go false p q = ap suc q ∙ suc-cond (ltb (suc k) (suc (length (laterPieces 10 xs)))) _ _ _ _ (omega arith) refl
 
@@ -97,6 +97,7 @@ skip-block (suc m) (suc k) (x ∷ xs) h l = go (eqb x 10) l (skip-block m k xs (
   where
     f : ℕ
     f = feedsIn (take m xs)
+
     go : (b : Bool) → cond b 1 0 + f < suc k → (f < k → skip k xs ≡ m + skip (k - f) (drop m xs)) → (f < suc k → skip (suc k) xs ≡ m + skip (suc k - f) (drop m xs))
         → suc (cond b (skip k xs) (skip (suc k) xs)) ≡ suc m + skip (suc k - (cond b 1 0 + f)) (drop m xs)
     go true l p q = let e : suc k - (1 + f) ≡ k - f = omega arith in rw e (omega (arith, p (omega arith)))
@@ -148,6 +149,7 @@ span-on i c ts k = rw (suc-less k (length ts)) (go (ltb k (length ts)))
   where
     e : i + (length c + 1 + starts (map length ts) k) ≡ i + length c + 1 + starts (map length ts) k
     e = omega arith
+
     go : (z : Bool) → _≡_ {A = Span} (cond z (record { start = i + (length c + 1 + starts (map length ts) k); len = length (getD ts k []) }) (record { start = 0; len = 0 }))
         (cond z (record { start = i + length c + 1 + starts (map length ts) k; len = length (getD ts k []) }) (record { start = 0; len = 0 }))
     go true = λ d. record { start = e d; len = length (getD ts k []) }

@@ -36,7 +36,7 @@ returns c =
     let st = l .before .before in
     let n : l .loop .left ≡ l .loop .left - 1 + 1 = omega arith in
     sym (l .loop .inv .1 ∙ ap (λ (x : ℕ). cellSpan (st .args .s .now) (l .loop .i) x) n
-      ∙ span-none (stop-moved (st .pre) (l .loop .inv .0)) (l .loop .left - 1) (subst (λ (x : ℕ). getD (st .args .s .now) x 0 ≡ 10) (q .cell-end .ensures .0) (c .if1 .taken)))
+    ∙ span-none (stop-moved (st .pre) (l .loop .inv .0)) (l .loop .left - 1) (subst (λ (x : ℕ). getD (st .args .s .now) x 0 ≡ 10) (q .cell-end .ensures .0) (c .if1 .taken)))
 
 add-i : tie.Need-add-i Inv-loop μ-loop
 add-i c = omega (arith, c .before .before .cell-end .ensures .2, c .before .before .before .before .before .before .pre .room)
@@ -54,10 +54,12 @@ loop-again c =
     let st = l .before .before in
     let t = stop-moved (st .pre) (l .loop .inv .0) in
     let n : l .loop .left ≡ l .loop .left - 1 + 1 = omega arith in
-    let u = stop-short (stop-moved (st .pre) (q .cell-end .ensures .2)) (c .if1 .left) in
-    (omega (arith, u), l .loop .inv .1 ∙ ap (λ (x : ℕ). cellSpan (st .args .s .now) (l .loop .i) x) n
-      ∙ span-more t (l .loop .left - 1) (subst (λ (x : ℕ). getD (st .args .s .now) x 0 ≡ 10 → ⊥) (q .cell-end .ensures .0) (c .if1 .left))
-      ∙ ap (λ (x : ℕ). cellSpan (st .args .s .now) (x + 1) (l .loop .left - 1)) (sym (q .cell-end .ensures .0)))
+    let u = stop-short (stop-moved (st .pre) (q .cell-end .ensures .2)) (c .if1 .left) in (
+      omega (arith, u),
+      l .loop .inv .1 ∙ ap (λ (x : ℕ). cellSpan (st .args .s .now) (l .loop .i) x) n
+          ∙ span-more t (l .loop .left - 1) (subst (λ (x : ℕ). getD (st .args .s .now) x 0 ≡ 10 → ⊥) (q .cell-end .ensures .0) (c .if1 .left))
+          ∙ ap (λ (x : ℕ). cellSpan (st .args .s .now) (x + 1) (l .loop .left - 1)) (sym (q .cell-end .ensures .0)),
+    )
 
 cell-end-requires-2 : tie.Need-cell-end-requires-2 Inv-loop μ-loop
 cell-end-requires-2 c κs = stop-moved (c .before .before .before .pre) (c .before .loop .inv .0)

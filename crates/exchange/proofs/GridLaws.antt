@@ -65,7 +65,7 @@ map-length-drop (suc k) (l ∷ ls) = map-length-drop k ls
 pub place-of-line : (s : List ℕ) (i k : ℕ) → i ≤ length s → k < length (pieces 10 s) → linesFrom s i ≡ drop k (pieces 10 s) → i ≡ starts (map length (pieces 10 s)) k
 place-of-line s i k h l e =
     let a : total (drop k (map length (pieces 10 s))) ≡ length s - i =
-        ap total (sym (map-length-drop k (pieces 10 s))) ∙ ap (λ (ls : List (List ℕ)). total (map length ls)) (sym e) ∙ total-pieces 10 (drop i s) ∙ length-drop i s in
+    ap total (sym (map-length-drop k (pieces 10 s))) ∙ ap (λ (ls : List (List ℕ)). total (map length ls)) (sym e) ∙ total-pieces 10 (drop i s) ∙ length-drop i s in
     let b : starts (map length (pieces 10 s)) k + total (drop k (map length (pieces 10 s))) ≡ length s = total-starts (map length (pieces 10 s)) k (rw length-map l) ∙ total-pieces 10 s in
     omega (arith, a, b, h)
 
@@ -77,11 +77,13 @@ lines-at (suc k) s i h l = by (ltb (i + length (lineAt s i)) (length s)) refl (l
   where
     j : ℕ
     j = i + length (lineAt s i) + 1
+
     tail-is : laterPieces 10 (drop i s) ≡ linesFrom s j → linesFrom s (j + starts (map length (linesFrom s j)) k) ≡ drop k (linesFrom s j)
         → linesFrom s (i + (length (lineAt s i) + 1 + starts (map length (laterPieces 10 (drop i s))) k)) ≡ drop k (laterPieces 10 (drop i s))
     tail-is e w =
         let n : i + (length (lineAt s i) + 1 + starts (map length (linesFrom s j)) k) ≡ j + starts (map length (linesFrom s j)) k = omega arith in
         rw e (ap (linesFrom s) n ∙ w)
+
     by : (z : Bool) → ltb (i + length (lineAt s i)) (length s) ≡ z → (j ≤ length s → k < length (linesFrom s j) → linesFrom s (j + starts (map length (linesFrom s j)) k) ≡ drop k (linesFrom s j))
         → linesFrom s (i + (length (lineAt s i) + 1 + starts (map length (laterPieces 10 (drop i s))) k)) ≡ drop k (laterPieces 10 (drop i s))
     by true e ih =
@@ -129,7 +131,8 @@ row-made s t r i p e h c =
       feed = record { inside = omega arith; room = far; feed = line-feed s i far; parts = refl };
       cells = ap (pieces 44) x ∙ sym (getD-mapped (pieces 10 s) (t .line + r) (omega (arith, h)));
       many = cells-many (kindsOf (t .names)) (pieces 44 (lineAt s i)) g ∙ length-map (t .names) kindOfName;
-      rules = g }
+      rules = g;
+    }
   where
     fed : (z : Bool) → ltb (i + length (lineAt s i)) (length s) ≡ z → 1 < length (linesFrom s i) → i + length (lineAt s i) < length s
     fed true q w = ltb-true (i + length (lineAt s i)) (length s) q
@@ -141,21 +144,28 @@ row-at s t n d r e h q l = rw (start-in s d r in-lines) (row-made s t r (d + sta
   where
     k : RowKept t (drop (t .line) (pieces 10 s)) r
     k = rows-kept s t n e r l
+
     long : length (drop (t .line) (pieces 10 s)) ≡ length (pieces 10 s) - t .line
     long = length-drop (t .line) (pieces 10 s)
+
     before : t .line < length (pieces 10 s)
     before = omega (arith, k .line, long)
+
     in-lines : r < length (linesFrom s d)
     in-lines = subst (λ (ls : List (List ℕ)). r < length ls) (sym q) (omega (arith, k .line))
+
     more : suc (t .line + r) < length (pieces 10 s)
     more = omega (arith, k .line, long)
+
     place-is : d + starts (map length (linesFrom s d)) r ≡ starts (map length (pieces 10 s)) (t .line + r)
     place-is =
         ap (λ (x : ℕ). x + starts (map length (linesFrom s d)) r) (place-of-line s d (t .line) h before q)
         ∙ ap (λ (ws : List ℕ). starts (map length (pieces 10 s)) (t .line) + starts ws r) (ap (map length) q ∙ map-length-drop (t .line) (pieces 10 s))
         ∙ sym (starts-add (map length (pieces 10 s)) (t .line) r (rw length-map before))
+
     lines-is : linesFrom s (d + starts (map length (linesFrom s d)) r) ≡ drop (t .line + r) (pieces 10 s)
     lines-is = lines-at r s d h in-lines ∙ ap (drop r) q ∙ drop-drop r (t .line) (pieces 10 s)
+
     rules : rowRules (kindsOf (t .names)) (pieces 44 (getD (pieces 10 s) (t .line + r) [])) ≡ clean
     rules = subst (λ (x : List ℕ). rowRules (kindsOf (t .names)) (pieces 44 x) ≡ clean) (getD-drop (t .line) (pieces 10 s) r []) (k .cells)
 
@@ -171,7 +181,8 @@ span-at zero s i e t h =
     record {
       inside = subst (λ (p : Span). p .start ≤ e) (sym f) (t .inside);
       text = ap (λ (p : Span). cellAt 44 s (p .start)) f;
-      room = subst (λ (p : Span). p .start + p .len ≤ e) (sym f) (omega (arith, next-within t, next-from 44 s i)) }
+      room = subst (λ (p : Span). p .start + p .len ≤ e) (sym f) (omega (arith, next-within t, next-from 44 s i));
+    }
 span-at (suc k) s i e t h = by (eqb (getD s (next 44 s i) 0) 10) refl (span-at k s (next 44 s i + 1) e)
   where
     by : (z : Bool) → eqb (getD s (next 44 s i) 0) 10 ≡ z → (Stop 44 s (next 44 s i + 1) e → k < length (pieces 44 (lineAt s (next 44 s i + 1))) → SpanAt s (next 44 s i + 1) e k) → SpanAt s i e (suc k)
@@ -185,4 +196,5 @@ span-at (suc k) s i e t h = by (eqb (getD s (next 44 s i) 0) 10) refl (span-at k
         record {
           inside = subst (λ (x : Span). x .start ≤ e) (sym f) (w .inside);
           text = ap (λ (x : Span). cellAt 44 s (x .start)) f ∙ w .text ∙ sym (ap (λ (ts : List (List ℕ)). getD ts (suc k) []) p);
-          room = subst (λ (x : Span). x .start + x .len ≤ e) (sym f) (w .room) }
+          room = subst (λ (x : Span). x .start + x .len ≤ e) (sym f) (w .room);
+        }

@@ -55,10 +55,10 @@ loop-again c =
     let s = l .before .before .before .before .args .s .now in
     let h : l .loop .at < length s = omega (arith, c .before .before .loop-test .taken) in
     let g : (1 ≤ c .if2 .left) × (skipped s (l .loop .at) (l .loop .left) ≡ skipped s (l .loop .at + 1) (c .if2 .left)) =
-        ⊎-elim
-        (λ w. skipped-fed s (l .loop .at) h (l .loop .left) (c .if2 .left) (w .0 .taken) (l .loop .inv .1) (w .1 .left) (w .2))
-        (λ w. skipped-past s (l .loop .at) h (l .loop .left) (c .if2 .left) (w .0 .left) (l .loop .inv .1) (w .1))
-        (c .if2 .came) in
+    ⊎-elim
+    (λ w. skipped-fed s (l .loop .at) h (l .loop .left) (c .if2 .left) (w .0 .taken) (l .loop .inv .1) (w .1 .left) (w .2))
+    (λ w. skipped-past s (l .loop .at) h (l .loop .left) (c .if2 .left) (w .0 .left) (l .loop .inv .1) (w .1))
+    (c .if2 .came) in
     (omega arith, g .0, l .loop .inv .2 ∙ g .1)
 
 returns-3 : tie.Need-returns-3 Inv-loop μ-loop

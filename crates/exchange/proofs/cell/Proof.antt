@@ -15,10 +15,11 @@ slice-aggregate-result : tie.Need-slice-aggregate-result
 slice-aggregate-result c = search needs
 
 returns : tie.Need-returns
-returns c = 
-    let a = c .before .before .before .before in
-    (part-along (call-place _ _ _ (a .ask .result) (a .ask .ensures) (c .before .if1 .taken)) (record { block = refl; offset = sym (add-zero _); content = refl }),
-    call-refusal _ _ _ (a .ask .result) (a .ask .ensures) (c .before .if1 .taken))
+returns c =
+    let a = c .before .before .before .before in (
+      part-along (call-place _ _ _ (a .ask .result) (a .ask .ensures) (c .before .if1 .taken)) (record { block = refl; offset = sym (add-zero _); content = refl }),
+      call-refusal _ _ _ (a .ask .result) (a .ask .ensures) (c .before .if1 .taken),
+    )
 
 add-trimmed : tie.Need-add-trimmed
 add-trimmed c = let a = c .before .before .before .before in omega (arith, a .ask .ensures .on (c .before .if1 .left) .1 .room)
@@ -27,10 +28,11 @@ trimmed-requires : tie.Need-trimmed-requires
 trimmed-requires c κs = search needs
 
 returns-2 : tie.Need-returns-2
-returns-2 c = 
-    let a = c .before .before .before .before .before in
-    (part-along (read-place _ _ _ (a .ask .result) (a .ask .ensures) (c .before .before .if1 .left)) (c .trimmed .ensures),
-    read-refusal _ _ _ (a .ask .result) (a .ask .ensures) (c .before .before .if1 .left))
+returns-2 c =
+    let a = c .before .before .before .before .before in (
+      part-along (read-place _ _ _ (a .ask .result) (a .ask .ensures) (c .before .before .if1 .left)) (c .trimmed .ensures),
+      read-refusal _ _ _ (a .ask .result) (a .ask .ensures) (c .before .before .if1 .left),
+    )
 
 pub cell-spec : {M : Type 1} → statement M
 cell-spec =

@@ -20,7 +20,15 @@ pub struct Cell {
 fn missed(number: u64, line: u64, column: u64) -> Cell
     ensures { λ r. ⌜ (r .number ≡ number) × (r .line ≡ line) × (r .column ≡ column) ⌝ }
 {
-    Cell { number, line, column, kind: 0, start: 0, len: 0, feed: 0 }
+    Cell {
+        number,
+        line,
+        column,
+        kind: 0,
+        start: 0,
+        len: 0,
+        feed: 0,
+    }
 }
 
 // The cell of a row and a column, from 1 each, of a file that is checked first.
@@ -40,5 +48,13 @@ pub fn ask(file: &[u8], row: u64, column: u64) -> Cell
     let at = line_start(file, data, (row - 1) as usize);
     let e = line_end(file, at);
     let p = cell_span(file, at, e, c);
-    Cell { number: 0, line: 0, column: 0, kind: kinds[c], start: p.start, len: p.len, feed: e }
+    Cell {
+        number: 0,
+        line: 0,
+        column: 0,
+        kind: kinds[c],
+        start: p.start,
+        len: p.len,
+        feed: e,
+    }
 }

@@ -65,22 +65,28 @@ module _ (r n c : ℕ) (t : Table) where
     where
       none : (p q u v : Bool) → (p && q && (u && v)) ≡ false → cond (p && q && (u && v)) (found t) (missed 21 0 0) ≡ missed 21 0 0
       none p q u v e = rw e
+
       one : (p q u v : Bool) → p ≡ false → (p && q && (u && v)) ≡ false
       one p q u v e = rw e
+
       two : (p q u v : Bool) → q ≡ false → (p && q && (u && v)) ≡ false
       two true q u v e = rw e
       two false q u v e = refl
+
       three : (p q u v : Bool) → u ≡ false → (p && q && (u && v)) ≡ false
       three true true u v e = rw e
       three true false u v e = refl
       three false q u v e = refl
+
       four : (p q u v : Bool) → v ≡ false → (p && q && (u && v)) ≡ false
       four true true true v e = e
       four true true false v e = refl
       four true false u v e = refl
       four false q u v e = refl
+
       m : ℕ
       m = length (t .names)
+
       go : (p q u v : Bool) → ltb r 1 ≡ p → ltb n r ≡ q → ltb c 1 ≡ u → ltb (length (t .names)) c ≡ v → (p || q || u || v) ≡ true → askedBy r c (accepted t n) ≡ missed 21 0 0
       go true q u v a b d f e = none (leb 1 r) (leb r n) (leb 1 c) (leb c m) (one (leb 1 r) (leb r n) (leb 1 c) (leb c m) (lt-leb 1 r (ltb-true r 1 a)))
       go false true u v a b d f e = none (leb 1 r) (leb r n) (leb 1 c) (leb c m) (two (leb 1 r) (leb r n) (leb 1 c) (leb c m) (lt-leb r n (ltb-true n r b)))
@@ -101,7 +107,8 @@ module _ (s : List ℕ) (r c : ℕ) (v : Survey) (w : SurveyRead s v) (x : Cell)
       let m = t .2 .many in
       record {
         stop = λ y. rw (e .0, e .1, e .2) (ap (askedBy r c) (t .1) ∙ asked-outside r (v .rows) c (t .0) (subst (λ (k : ℕ). outside r (v .rows) c k ≡ true) m o));
-        on = λ y. absurd (omega (arith, e .0, y)) }
+        on = λ y. absurd (omega (arith, e .0, y));
+      }
 
 -- ---- the cell
 module _ (s : List ℕ) (r c : ℕ) (v : Survey) (w : SurveyRead s v) (z : v .number ≡ 0) (o : outside r (v .rows) c (v .columns) ≡ false) where
@@ -127,31 +134,40 @@ module _ (s : List ℕ) (r c : ℕ) (v : Survey) (w : SurveyRead s v) (z : v .nu
     where
       t : (t : Table) × (outcomeOf s ≡ accepted t (v .rows)) × TableRead s t v × (t .sort ≡ sortOf (v .kind)) × (t .names ≡ namesOf (lineAt s (v .names)))
       t = w .on z
+
       i : ℕ
       i = lineStart s (v .data) (r - 1)
+
       place : cellSpan s i (c - 1) ≡ cellPlace (t .0) s r c
       place = ap (λ (ts : List (List ℕ)). spanIn i ts (c - 1)) (ask-row .cells) ∙ ap (λ (k : ℕ). spanIn k (rowCells (t .0) s r) (c - 1)) (ask-row .place)
+
       span : p ≡ cellSpan s i (c - 1)
       span = ep ∙ ap (λ (k : ℕ). cellSpan s k (c - 1)) ea
+
       far : e ≡ i + length (lineAt s i)
       far = ee ∙ ap (λ (k : ℕ). k + length (lineAt s k)) ea
+
       start-is : x .start ≡ cellSpan s i (c - 1) .start
       start-is = es ∙ ap (λ (q : Span). q .start) span
+
       stop-is : Stop 44 s (cellSpan s i (c - 1) .start) (i + length (lineAt s i))
       stop-is = stop-moved (ask-row .feed) (ask-span .inside)
+
       kind-is : getD (v .kinds) (c - 1) 0 ≡ kindAt (t .0) c
       kind-is = sym (getD-take (v .columns) (v .kinds) (c - 1) 0 (omega (arith, within .column, within .columns))) ∙ ap (λ (ks : List ℕ). getD ks (c - 1) 0) (t .2 .kinds)
+
       cell : CellRead s r c (t .0) x
       cell = record {
-          asked = ap (askedBy r c) (t .1) ∙ asked-inside r (v .rows) c (t .0) (subst (λ (m : ℕ). Inside r (v .rows) c m) (t .2 .many) within);
-          line = eln;
-          column = eco;
-          kind = ek ∙ kind-is;
-          start = start-is ∙ ap (λ (q : Span). q .start) place;
-          len = el ∙ ap (λ (q : Span). q .len) (span ∙ place);
-          stop = rw (start-is, ef, far) stop-is;
-          text = ap (cellAt 44 s) start-is ∙ ask-span .text ∙ ap (λ (ts : List (List ℕ)). getD ts (c - 1) []) (ask-row .cells);
-          room = omega (arith, start-is, el, ap (λ (q : Span). q .len) span, ask-span .room, ask-row .feed .room) }
+        asked = ap (askedBy r c) (t .1) ∙ asked-inside r (v .rows) c (t .0) (subst (λ (m : ℕ). Inside r (v .rows) c m) (t .2 .many) within);
+        line = eln;
+        column = eco;
+        kind = ek ∙ kind-is;
+        start = start-is ∙ ap (λ (q : Span). q .start) place;
+        len = el ∙ ap (λ (q : Span). q .len) (span ∙ place);
+        stop = rw (start-is, ef, far) stop-is;
+        text = ap (cellAt 44 s) start-is ∙ ask-span .text ∙ ap (λ (ts : List (List ℕ)). getD ts (c - 1) []) (ask-row .cells);
+        room = omega (arith, start-is, el, ap (λ (q : Span). q .len) span, ask-span .room, ask-row .feed .room);
+      }
 
 -- ---- the calls
 reading-anywhere : (k n : ℕ) (v : Verdict) → readingOf k (judgedOf n v) ≡ readingOf k (judgedOf 0 v)
@@ -202,7 +218,7 @@ module _ (s : List ℕ) (r c : ℕ) (x : Cell) (w : AskedRead s r c x) where
     unfolding flaggedOf
     read-flag b j e =
         let f : j .size ≡ sizeOf (judge (kindOf (kindAt (w .on z .0) c)) (cellText (w .on z .0) s r c)) =
-            ap (λ (y : Judged). y .size) (e ∙ judged-is) ∙ size-anywhere (next 44 s (x .start)) (judge (kindOf (kindAt (w .on z .0) c)) (cellText (w .on z .0) s r c)) in
+        ap (λ (y : Judged). y .size) (e ∙ judged-is) ∙ size-anywhere (next 44 s (x .start)) (judge (kindOf (kindAt (w .on z .0) c)) (cellText (w .on z .0) s r c)) in
         rw (cell .asked, f) (rw (ap (λ (k : ℕ). eqb k 4 || eqb k 5) (sym (cell .kind)) ∙ b))
 
     pub read-other : (eqb (x .kind) 4 || eqb (x .kind) 5) ≡ false → _≡_ {A = Flagged} (record { number = 22; line = 0; column = 0; flag = 0 }) (flaggedOf s r c)

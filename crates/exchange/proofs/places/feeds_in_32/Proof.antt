@@ -44,9 +44,13 @@ loop-less c = search needs
 loop-again : tie.Need-loop-again Inv-loop μ-loop
 loop-again c =
     let l = c .before .before .before in
-    let a = l .before .before .args in
-    (omega arith, omega arith, refl, omega (arith, c .is-feed .ensures .1),
-      ap (λ (x : ℕ). l .loop .n + x) (c .is-feed .ensures .0) ∙ ap (λ (x : ℕ). x + cond (eqb (getD (a .s .now) (l .loop .k) 0) 10) 1 0) (l .loop .inv .4) ∙ sym (feeds-step (a .s .now) (a .i) (l .loop .k) (omega arith) (omega arith)))
+    let a = l .before .before .args in (
+      omega arith,
+      omega arith,
+      refl,
+      omega (arith, c .is-feed .ensures .1),
+      ap (λ (x : ℕ). l .loop .n + x) (c .is-feed .ensures .0) ∙ ap (λ (x : ℕ). x + cond (eqb (getD (a .s .now) (l .loop .k) 0) 10) 1 0) (l .loop .inv .4) ∙ sym (feeds-step (a .s .now) (a .i) (l .loop .k) (omega arith) (omega arith)),
+    )
 
 returns : tie.Need-returns Inv-loop μ-loop
 returns c =
