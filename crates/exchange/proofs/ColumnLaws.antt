@@ -20,12 +20,12 @@ use Rattle.text.proofs.CellLaws.{both-true}
 use Rattle.text.proofs.EqualLaws.{equal-same, equal-refl}
 use Rattle.exchange.specs.declared.names.NameFault.{NameFault}
 use Rattle.exchange.specs.declared.names.NameFault.the-variants.{Clean, Bad, Repeated}
-use Rattle.exchange.specs.Faults.{Fault, clean, breaks, _then_, unless, member, hasAll}
+use Rattle.exchange.specs.Faults.{Fault, clean, breaks, _then_, unless, member, hasAll, placeIn}
 use Rattle.exchange.specs.Headers.{stationNames}
 use Rattle.exchange.specs.Columns.{Sort, ctd, Column, isFlag, parameterOf, hasParameter, nameFaults, flagFaults, requiredNames, namesOf, namesRules, kindOfName, flagFrom, columnOf}
 use Rattle.exchange.specs.declared.columns.Cells.{Cells}
 use Rattle.exchange.specs.declared.columns.Columns.{Columns}
-use Rattle.exchange.specs.Walks.{textIn, namesAt, placeIn, asFault, sortFor, ColumnsRead}
+use Rattle.exchange.specs.Walks.{textIn, namesAt, asFault, sortFor, ColumnsRead}
 use Rattle.exchange.specs.NameWords.{faultIn}
 use Rattle.exchange.specs.ColumnWords.{startOf, Placed, CellsFound, KindsRead, parameterPlace}
 use Rattle.exchange.proofs.NameLaws.{names-length, name-given, Within, fault-within, place-test, place-member, place-within, place-name, clean-fresh, clean-unique}

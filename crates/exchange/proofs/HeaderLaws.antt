@@ -22,10 +22,10 @@ use Rattle.text.proofs.CellLaws.{both-true, line-in, line-end, cell-in, cell-en
 use Rattle.text.proofs.SpaceLaws.{slice-take, span-bytes, trim-fits}
 use Rattle.text.proofs.JudgeLaws.{judged-stop, whole-stop}
 use Rattle.exchange.specs.declared.headers.Header.{Header}
-use Rattle.exchange.specs.Faults.{Fault, clean, breaks, _then_, unless, kindFault, member}
+use Rattle.exchange.specs.Faults.{Fault, clean, breaks, _then_, unless, kindFault, member, placeIn}
 use Rattle.exchange.specs.LineRules.{lineRules, tooLong}
 use Rattle.exchange.specs.Headers.{Header as FileHeader, headerOf, rawName, nameOf, valueOf, namesIn, nameRule, countIn, headersSaid, headerKind, headerRules}
-use Rattle.exchange.specs.Walks.{lineFault, lineFor, lineOf, asFault, textIn, namesAt, placeIn, headersAt}
+use Rattle.exchange.specs.Walks.{lineFault, lineFor, lineOf, asFault, textIn, namesAt, headersAt}
 use Rattle.exchange.specs.HeadersWords.{Parted, namedFault, headerFault, HeaderRead}
 use Rattle.exchange.proofs.RunLaws.{piece-in, piece-take, line-feed, line-clean}
 

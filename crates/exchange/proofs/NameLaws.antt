@@ -16,9 +16,9 @@ use Rattle.text.specs.Names.{isName}
 use Rattle.text.proofs.EqualLaws.{equal-same, equal-refl}
 use Rattle.exchange.specs.declared.names.NameFault.{NameFault}
 use Rattle.exchange.specs.declared.names.NameFault.the-variants.{Clean, Bad, Repeated}
-use Rattle.exchange.specs.Faults.{member, hasAll}
+use Rattle.exchange.specs.Faults.{member, hasAll, placeIn}
 use Rattle.exchange.specs.Headers.{stationNames}
-use Rattle.exchange.specs.Walks.{textIn, namesAt, placeIn}
+use Rattle.exchange.specs.Walks.{textIn, namesAt}
 use Rattle.exchange.specs.NameWords.{faultIn}
 
 -- ---- names by place

@@ -1,5 +1,5 @@
 -- Document 01, "Refusal numbers": a line keeps its rules, or breaks one, with its number and the column shown; of two rules the first broken one counts.
-use Prim.Native.Nat.{ℕ}
+use Prim.Native.Nat.{ℕ, suc}
 use mathlib.Core.List.{List, [], _∷_}
 use mathlib.Core.Bool.{Bool, true, false, cond, _||_, _&&_}
 use Rattle.text.specs.Bytes.{equal}
@@ -34,3 +34,8 @@ member n (x ∷ xs) = equal x n || member n xs
 unfoldable pub hasAll : List (List ℕ) → List (List ℕ) → Bool
 hasAll [] xs = true
 hasAll (n ∷ ns) xs = member n xs && hasAll ns xs
+
+-- the place of a name in a list, from 0; the list's length where it is not there
+unfoldable pub placeIn : List ℕ → List (List ℕ) → ℕ
+placeIn n [] = 0
+placeIn n (x ∷ xs) = cond (equal x n) 0 (suc (placeIn n xs))

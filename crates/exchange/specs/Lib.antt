@@ -7,6 +7,8 @@ pub mod Places
 pub mod Grid
 pub mod Profiles
 pub mod Answers
+pub mod Located
+pub mod Records
 pub mod Walks
 pub mod LineWords
 pub mod NameWords

@@ -5,7 +5,6 @@ use mathlib.Core.List.{List, [], _∷_, map}
 use mathlib.Core.Bool.{Bool, true, false, cond}
 use lib.ListN.{length, getD, take, drop}
 use lib.Dec.{ltb, eqb}
-use Rattle.text.specs.Bytes.{equal}
 use Rattle.text.specs.Cells.{lineAt, pieces}
 use Rattle.text.specs.Spaces.{trimSpan}
 use Rattle.exchange.specs.declared.lines.Line.{Line}
@@ -56,11 +55,6 @@ namesAt s zero bs es = []
 namesAt s (suc n) [] es = []
 namesAt s (suc n) (b ∷ bs) [] = []
 namesAt s (suc n) (b ∷ bs) (e ∷ es) = textIn s b e ∷ namesAt s n bs es
-
--- the place of a name in a list; the list's length where it is not there
-unfoldable pub placeIn : List ℕ → List (List ℕ) → ℕ
-placeIn n [] = 0
-placeIn n (x ∷ xs) = cond (equal x n) 0 (suc (placeIn n xs))
 
 -- ---- the first line, the comments, the headers
 abbrev pub sortOf : ℕ → Sort

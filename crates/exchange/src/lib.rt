@@ -3,6 +3,7 @@ ghost use mathlib.Core.Path.{_≡_};
 ghost use Rattle.text.specs.Spaces.{IsPart};
 ghost use Rattle.exchange.specs.Answers.{checkedOf, cellOf, refusalBy, askedOf, readingFor, flaggedOf};
 use text::Reading;
+use text::Span;
 
 mod asking;
 mod columns;
@@ -39,6 +40,36 @@ pub struct Flagged {
     pub line: u64,
     pub column: u64,
     pub flag: u64,
+}
+
+// When a cast was made.
+pub enum CastTime {
+    Given { hour: u64, minute: u64 },
+    Missing,
+}
+
+// A profile's record where the number is 0, else the refusal.
+pub struct Profile {
+    pub number: u64,
+    pub line: u64,
+    pub column: u64,
+    pub time: CastTime,
+    pub first: u64,
+    pub rows: u64,
+    pub castno: u64,
+    pub date: u64,
+}
+
+// Where the cells of a measurement stand, with their spaces, and what column they are of; or the refusal.
+pub struct Located {
+    pub number: u64,
+    pub line: u64,
+    pub column: u64,
+    pub value: Span,
+    pub measured: bool,
+    pub ctd: bool,
+    pub flagged: bool,
+    pub flag: Span,
 }
 
 // Checks a file.

@@ -3,10 +3,10 @@ ghost use mathlib.Core.Path.{_≡_};
 ghost use Prim.Native.Nat.{_≤_, _<_};
 ghost use mathlib.Core.List.{[]};
 ghost use lib.ListN.{length, getD};
-ghost use Rattle.exchange.specs.Faults.{hasAll};
+ghost use Rattle.exchange.specs.Faults.{hasAll, placeIn};
 ghost use Rattle.exchange.specs.Headers.{stationNames};
 ghost use Rattle.exchange.specs.NameWords.{faultIn};
-ghost use Rattle.exchange.specs.Walks.{textIn, namesAt, placeIn};
+ghost use Rattle.exchange.specs.Walks.{textIn, namesAt};
 
 // The first fault of a list of names.
 pub enum NameFault {
