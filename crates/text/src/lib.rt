@@ -127,6 +127,13 @@ pub fn trimmed(s: &[u8], a: usize, e: usize) -> &[u8]
     &s[b..b + n]
 }
 
+// Where they stand.
+pub fn trim_span(s: &[u8], a: usize, e: usize) -> Span
+    ensures { λ r. ⌜ r ≡ trimSpan (now (s .entry)) a e ⌝ }
+{
+    spaces::span_of(s, a, e)
+}
+
 // Whether two texts have the same bytes.
 pub fn same<'a>(x: &'a [u8], y: &'a [u8]) -> bool
     ensures { λ r. ⌜ r ≡ equal (now (x .entry)) (now (y .entry)) ⌝ }
