@@ -16,3 +16,4 @@ pub mod GridLaws
 pub mod AskLaws
 pub mod JoinLaws
 pub mod UngridLaws
+pub mod RowKeepLaws
