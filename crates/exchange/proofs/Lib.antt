@@ -17,3 +17,4 @@ pub mod AskLaws
 pub mod JoinLaws
 pub mod UngridLaws
 pub mod RowKeepLaws
+pub mod LineKeepLaws

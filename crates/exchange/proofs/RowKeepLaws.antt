@@ -10,13 +10,14 @@ use native.Mathlib.Omega.{arith}
 use lib.ListN.{set}
 use lib.Dec.{eqb, ltb}
 use Rattle.text.specs.Cells.{firstPiece, laterPieces, pieces}
-use Rattle.exchange.specs.Faults.{Fault, clean, breaks, _then_, unless}
+use Rattle.exchange.specs.Faults.{Fault, clean, _then_, unless}
 use Rattle.exchange.specs.LineRules.{lineRules, unended}
 use Rattle.exchange.specs.Columns.{kindsOf}
 use Rattle.exchange.specs.Rows.{rowRules, isEndData}
 use Rattle.exchange.specs.Grid.{join}
 use Rattle.exchange.specs.Places.{Table, Place, first, rows, after, stopped, stopAt, endData, rowsStep, step, accepted, run, outcomeOf}
 use Rattle.exchange.proofs.RunLaws.{run-stopped}
+use Rattle.exchange.proofs.HeaderLaws.{then-clean}
 use Rattle.exchange.proofs.AcceptLaws.{accepted-not-refused, fault-refused, stops-refused, after-accepted, rows-accepted, Early, Next, early, table, next-step, early-ends, early-cut, rows-reached}
 use Rattle.exchange.proofs.JoinLaws.{Free, first-free, later-free, pieces-join}
 use Rattle.exchange.proofs.UngridLaws.{all-set}
@@ -30,10 +31,6 @@ run-set : (l : ℕ) (p : Place) (y z : List ℕ) (zs : List (List ℕ)) (k : ℕ
 unfolding run
 run-set l p y z zs zero x = refl
 run-set l p y z zs (suc k) x = refl
-
-first-clean : (f g : Fault) → (f then g) ≡ clean → f ≡ clean
-first-clean clean g e = refl
-first-clean (breaks n c) g e = e
 
 module _ (t : Table) (x : List ℕ) (bytes : lineRules true x ≡ clean) (more : isEndData x ≡ false) (cells : rowRules (kindsOf (t .names)) (pieces 44 x) ≡ clean) where
   row-step : (l m : ℕ) → unless (ltb m 1000000) 20 1 ≡ clean → rowsStep l t m x ≡ rows t (m + 1)
@@ -60,7 +57,7 @@ module _ (t : Table) (x : List ℕ) (bytes : lineRules true x ≡ clean) (more :
           → ((r : ℕ) → run (l + 1) (rows t (m + 1)) (z ∷ zs) ≡ accepted u n → r < n - (m + 1) → run (l + 1) (rows t (m + 1)) (set (z ∷ zs) r x) ≡ accepted u n)
           → run l (rows t m) (set (y ∷ (z ∷ zs)) r x) ≡ accepted u n
       goes-on zero h c s e ih =
-          ap (λ (p : Place). run (l + 1) p (z ∷ zs)) (row-step l m (first-clean (unless (ltb m 1000000) 20 1) (rowRules (kindsOf (t .names)) (pieces 44 y)) c)) ∙ e
+          ap (λ (p : Place). run (l + 1) p (z ∷ zs)) (row-step l m (then-clean (unless (ltb m 1000000) 20 1) (rowRules (kindsOf (t .names)) (pieces 44 y)) c .0)) ∙ e
       goes-on (suc r) h c s e ih =
           run-set l (rows t m) y z zs r x ∙ ap (λ (p : Place). run (l + 1) p (set (z ∷ zs) r x)) s ∙ ih r e (omega (arith, h))
 
