@@ -18,3 +18,4 @@ pub mod JoinLaws
 pub mod UngridLaws
 pub mod RowKeepLaws
 pub mod LineKeepLaws
+pub mod WriteLaws

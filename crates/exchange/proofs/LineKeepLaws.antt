@@ -7,7 +7,7 @@ use mathlib.Core.Path.{_≡_, refl, sym, ap, _∙_}
 use mathlib.Core.Bool.{Bool, true, false, cond, _&&_, true≢false, and-eq-true-iff}
 use mathlib.Core.List.{List, [], _∷_, _++_, append-nil}
 use native.Mathlib.Omega.{arith}
-use lib.Dec.{eqb, leb}
+use lib.Dec.{eqb}
 use lib.ListN.{length, getD, set}
 use Rattle.text.specs.declared.Found.{Found}
 use Rattle.text.specs.declared.Found.the-variants.{At, Nowhere}
@@ -15,7 +15,7 @@ use Rattle.text.specs.Bytes.{every}
 use Rattle.text.specs.Lines.{Range, within, takes, alternatives, characterIn, character, illFrom, illFormed, firstFrom, isReturn, returnAt, isControl, controlAt}
 use Rattle.text.proofs.CharacterLaws.{character-ascii}
 use Rattle.text.proofs.LineLaws.{isPlain, plain-well-formed, plain-no-return, plain-no-control}
-use Rattle.exchange.specs.Faults.{Fault, clean, breaks, _then_, unless}
+use Rattle.exchange.specs.Faults.{clean, _then_}
 use Rattle.exchange.specs.LineRules.{foundFault, tooLong, lineRules}
 use Rattle.exchange.specs.Grid.{join, joinLater}
 use Rattle.exchange.proofs.HeaderLaws.{then-clean}
