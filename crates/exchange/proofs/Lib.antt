@@ -14,3 +14,8 @@ pub mod SurveyLaws
 pub mod PlaceLaws
 pub mod GridLaws
 pub mod AskLaws
+pub mod JoinLaws
+pub mod UngridLaws
+pub mod RowKeepLaws
+pub mod LineKeepLaws
+pub mod WriteLaws
