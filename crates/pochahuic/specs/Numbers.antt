@@ -1,0 +1,46 @@
+-- The answers of the calls as numbers, for programs in other languages: for each case of each answer the numbers of document 01 in a fixed order, refusal
+-- number, line and column first, 0 each where nothing is refused.
+use Prim.Native.Nat.{ℕ}
+use mathlib.Core.List.{List, [], _∷_}
+use lib.IntN.{ℤ, pos}
+use lib.Ieee.{Float, binary64, ofInt}
+use Rattle.text.specs.declared.Reading.{Reading}
+use Rattle.text.specs.declared.Reading.the-variants.{Present, Missing, Refused}
+use Rattle.exchange.specs.declared.FileKind.{FileKind}
+use Rattle.exchange.specs.declared.FileKind.the-variants.{Unknown, Bottle, Ctd}
+use Rattle.exchange.specs.declared.Checked.{Checked}
+use Rattle.exchange.specs.declared.Flagged.{Flagged}
+
+-- ---- the check: the kind is 0 for none, 1 for a bottle file, 2 for a CTD file; then the counts
+abbrev pub kindNumber : FileKind → ℕ
+kindNumber Unknown = 0
+kindNumber Bottle = 1
+kindNumber Ctd = 2
+
+abbrev pub checkNumbers : Checked → List ℕ
+checkNumbers x = x .number ∷ x .line ∷ x .column ∷ kindNumber (x .kind) ∷ x .columns ∷ x .rows ∷ x .profiles ∷ x .missing ∷ []
+
+-- ---- a decimal: 0 where it is present, 1 where it is missing, 2 where it is refused; both numbers are 0 unless it is present
+abbrev pub readingCase : Reading → ℕ
+readingCase (Present m v) = 0
+readingCase Missing = 1
+readingCase (Refused a b c) = 2
+
+abbrev pub millionthsOf : Reading → ℤ
+millionthsOf (Present m v) = m
+millionthsOf Missing = pos 0
+millionthsOf (Refused a b c) = pos 0
+
+abbrev pub valueOf : Reading → Float
+valueOf (Present m v) = v
+valueOf Missing = ofInt binary64 (pos 0)
+valueOf (Refused a b c) = ofInt binary64 (pos 0)
+
+abbrev pub refusalOf : Reading → List ℕ
+refusalOf (Present m v) = 0 ∷ 0 ∷ 0 ∷ []
+refusalOf Missing = 0 ∷ 0 ∷ 0 ∷ []
+refusalOf (Refused a b c) = a ∷ b ∷ c ∷ []
+
+-- ---- a flag
+abbrev pub flagNumbers : Flagged → List ℕ
+flagNumbers x = x .number ∷ x .line ∷ x .column ∷ x .flag ∷ []
