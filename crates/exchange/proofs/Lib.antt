@@ -19,3 +19,4 @@ pub mod UngridLaws
 pub mod RowKeepLaws
 pub mod LineKeepLaws
 pub mod WriteLaws
+pub mod LocateLaws
