@@ -7,12 +7,16 @@ use lib.Ieee.{Float, binary64, ofInt, ofBits}
 use Rattle.text.specs.declared.Reading.{Reading}
 use Rattle.text.specs.declared.Reading.the-variants.{Present, Missing, Refused}
 use Rattle.exchange.specs.declared.Checked.{Checked}
+use Rattle.exchange.specs.declared.CellPlace.{CellPlace}
 use Rattle.exchange.specs.declared.Flagged.{Flagged}
-use Rattle.pochahuic.specs.Numbers.{kindNumber, checkNumbers, readingCase, millionthsOf, valueOf, refusalOf, flagNumbers}
+use Rattle.pochahuic.specs.Numbers.{kindNumber, checkNumbers, placeNumbers, readingCase, millionthsOf, valueOf, refusalOf, flagNumbers}
 
 pub check-answered : (x y : Checked) → x ≡ y → (k : ℕ) → k ≡ kindNumber (x .kind)
     → (x .number ≡ y .number) × (x .number ∷ x .line ∷ x .column ∷ k ∷ x .columns ∷ x .rows ∷ x .profiles ∷ x .missing ∷ [] ≡ checkNumbers y)
 check-answered x y e k h = (ap (λ (z : Checked). z .number) e, ap (λ (i : ℕ). x .number ∷ x .line ∷ x .column ∷ i ∷ x .columns ∷ x .rows ∷ x .profiles ∷ x .missing ∷ []) h ∙ ap checkNumbers e)
+
+pub place-answered : (x y : CellPlace) → x ≡ y → (x .number ≡ y .number) × (placeNumbers x ≡ placeNumbers y)
+place-answered x y e = (ap (λ (z : CellPlace). z .number) e, ap placeNumbers e)
 
 pub flag-answered : (x y : Flagged) → x ≡ y → (x .number ≡ y .number) × (flagNumbers x ≡ flagNumbers y)
 flag-answered x y e = (ap (λ (z : Flagged). z .number) e, ap flagNumbers e)

@@ -9,6 +9,7 @@ use Rattle.text.specs.declared.Reading.the-variants.{Present, Missing, Refused}
 use Rattle.exchange.specs.declared.FileKind.{FileKind}
 use Rattle.exchange.specs.declared.FileKind.the-variants.{Unknown, Bottle, Ctd}
 use Rattle.exchange.specs.declared.Checked.{Checked}
+use Rattle.exchange.specs.declared.CellPlace.{CellPlace}
 use Rattle.exchange.specs.declared.Flagged.{Flagged}
 
 -- ---- the check: the kind is 0 for none, 1 for a bottle file, 2 for a CTD file; then the counts
@@ -19,6 +20,10 @@ kindNumber Ctd = 2
 
 abbrev pub checkNumbers : Checked → List ℕ
 checkNumbers x = x .number ∷ x .line ∷ x .column ∷ kindNumber (x .kind) ∷ x .columns ∷ x .rows ∷ x .profiles ∷ x .missing ∷ []
+
+-- ---- a trimmed cell, by its place in the file: its start, counted from 0, and its length
+abbrev pub placeNumbers : CellPlace → List ℕ
+placeNumbers x = x .number ∷ x .line ∷ x .column ∷ x .place .start ∷ x .place .len ∷ []
 
 -- ---- a decimal: 0 where it is present, 1 where it is missing, 2 where it is refused; both numbers are 0 unless it is present
 abbrev pub readingCase : Reading → ℕ

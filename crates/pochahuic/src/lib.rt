@@ -1,8 +1,8 @@
 // The calls for programs in other languages: numbers and bytes only. Each writes the numbers of its answer, refusal number, line and column first, into the
 // lent array, and answers the refusal number (0 where nothing is refused); a decimal answers which reading it is.
 ghost use mathlib.Core.Path.{_≡_};
-ghost use Rattle.exchange.specs.Answers.{checkedOf, readingFor, flaggedOf};
-ghost use Rattle.pochahuic.specs.Numbers.{kindNumber, checkNumbers, readingCase, millionthsOf, valueOf, refusalOf, flagNumbers};
+ghost use Rattle.exchange.specs.Answers.{checkedOf, placeFor, readingFor, flaggedOf};
+ghost use Rattle.pochahuic.specs.Numbers.{kindNumber, checkNumbers, placeNumbers, readingCase, millionthsOf, valueOf, refusalOf, flagNumbers};
 use exchange::FileKind;
 use text::Reading;
 
@@ -37,6 +37,23 @@ pub extern "C" fn pochahuic_check(file: &[u8], out: &mut [u64; 8]) -> u64
         c.missing,
     ];
     c.number
+}
+
+// Where a trimmed cell stands: number, line, column, start, length; the start counts from 0.
+#[no_mangle]
+pub extern "C" fn pochahuic_cell(file: &[u8], row: u64, column: u64, out: &mut [u64; 5]) -> u64
+    ensures { λ r. ⌜ r ≡ placeFor (now (file .entry)) row column .number ⌝ }
+    ensures { λ _. ⌜ now (out .exit) ≡ placeNumbers (placeFor (now (file .entry)) row column) ⌝ }
+{
+    let p = exchange::cell_place(file, row, column);
+    *out = [
+        p.number,
+        p.line,
+        p.column,
+        p.place.start as u64,
+        p.place.len as u64,
+    ];
+    p.number
 }
 
 // Reads a decimal: 0 present, 1 missing, 2 refused; the millionths and the double, and number, line, column.

@@ -1,0 +1,13 @@
+use Rattle.pochahuic.proofs.NumberLaws.{place-answered}
+use borrow.Author.Needs.{needs}
+use Rattle.pochahuic.proofs.pochahuic_cell.Statement.{statement}
+use Rattle.pochahuic.proofs.pochahuic_cell.Tie as tie
+
+cell-place-requires : tie.Need-cell-place-requires
+cell-place-requires c κs = search needs
+
+returns : tie.Need-returns
+returns c = place-answered (c .before .cell-place .result) _ (c .before .cell-place .ensures)
+
+pub pochahuic-cell-spec : {M : Type 1} → statement M
+pochahuic-cell-spec = tie.close (tie.spec cell-place-requires returns)
