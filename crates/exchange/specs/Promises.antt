@@ -1,0 +1,106 @@
+-- Laws of the answers that a reader wants to see stated, in document 01's words; the equations of the calls cite the definitions that these laws are about.
+-- A term of each type stands in proofs/: AskedLaws, MissingLaws.
+use Prim.Native.Nat.{ℕ, zero, suc, _+_, _≤_}
+use mathlib.Core.Path.{_≡_}
+use mathlib.Core.Logic.{_↔_, _⊎_}
+use mathlib.Core.List.{List, [], _∷_}
+use mathlib.Core.Bool.{Bool, true, false, cond, _&&_}
+use lib.ListN.{length}
+use lib.IntN.{ℤ, pos, negℤ}
+use Rattle.text.specs.declared.Reading.{Reading}
+use Rattle.text.specs.declared.Reading.the-variants.{Present, Missing, Refused}
+use Rattle.text.specs.Decimals.{Verdict, blank, wrong, outOfRange, good}
+use Rattle.text.specs.Judge.{Kind, measured, depth, flag, ctdFlag, kindOf, judge}
+use Rattle.text.specs.Reading.{signed, readNumber, isDecimal}
+use Rattle.exchange.specs.Places.{Table, Outcome, accepted, refused, outcomeOf}
+use Rattle.exchange.specs.Answers.{checkedOf, askedOf, kindAt, cellText, cellPlace, trimmedPlace, cellOf, refusalBy, readingFor, flaggedOf}
+use Rattle.exchange.specs.Located.{isMeasured, nowhere}
+
+-- ---- a row and a column, counted from 1, of a file with the table t and n rows
+abbrev pub IsThere : Table → ℕ → ℕ → ℕ → Type 0
+IsThere t n r c = (1 ≤ r) × (r ≤ n) × (1 ≤ c) × (c ≤ length (t .names))
+
+abbrev pub columnKind : Table → ℕ → Kind
+columnKind t c = kindOf (kindAt t c)
+
+-- the cell judged, and the millionths that a good decimal writes
+abbrev pub cellVerdict : Table → List ℕ → ℕ → ℕ → Verdict
+cellVerdict t f r c = judge (columnKind t c) (cellText t f r c)
+
+abbrev pub millionthsOf : Verdict → ℤ
+millionthsOf blank = pos 0
+millionthsOf wrong = pos 0
+millionthsOf outOfRange = pos 0
+millionthsOf (good m v d) = signed m v
+
+-- ---- "Refusal numbers", 21 and 22: which calls are refused, and what the others give
+abbrev pub IsFlag : Kind → Type 0
+IsFlag k = (k ≡ flag) ⊎ (k ≡ ctdFlag)
+
+-- all reading calls give this refusal at row r and column c; the cell is the empty part at the file's start
+pub record Refuses (f : List ℕ) (r c number line column : ℕ) : Type 0 where
+  pub refusal : refusalBy (askedOf f r c) ≡ number ∷ line ∷ column ∷ []
+  pub cell : cellOf f r c ≡ nowhere
+  pub decimal : readingFor f r c ≡ Refused number line column
+  pub flag : flaggedOf f r c ≡ record { number = number; line = line; column = column; flag = 0 }
+
+-- a flag is handed out: one of the set, 1 to 9, but 8 isn't used where the parameter's name begins with CTD
+pub record GivesFlag (f : List ℕ) (t : Table) (r c : ℕ) : Type 0 where
+  pub number : flaggedOf f r c .number ≡ 0
+  pub line : flaggedOf f r c .line ≡ 0
+  pub column : flaggedOf f r c .column ≡ 0
+  pub low : 1 ≤ flaggedOf f r c .flag
+  pub high : flaggedOf f r c .flag ≤ 9
+  pub unused : columnKind t c ≡ ctdFlag → flaggedOf f r c .flag ≡ 8 → ⊥
+
+-- the cell is handed out, whatever its column; a decimal is read in a measured, LATITUDE, LONGITUDE or DEPTH column, and is present or missing;
+-- a flag is read in a flag column; any other column gives 22
+pub record Answers (f : List ℕ) (t : Table) (r c : ℕ) : Type 0 where
+  pub refusal : refusalBy (askedOf f r c) ≡ 0 ∷ 0 ∷ 0 ∷ []
+  pub cell : cellOf f r c ≡ trimmedPlace f (cellPlace t f r c)
+  pub decimal : isDecimal (columnKind t c) ≡ true → readingFor f r c ≡ readNumber (millionthsOf (cellVerdict t f r c))
+  pub no-decimal : isDecimal (columnKind t c) ≡ false → readingFor f r c ≡ Refused 22 0 0
+  pub flag : IsFlag (columnKind t c) → GivesFlag f t r c
+  pub no-flag : (IsFlag (columnKind t c) → ⊥) → flaggedOf f r c ≡ record { number = 22; line = 0; column = 0; flag = 0 }
+
+pub record AskedExactly : Type 0 where
+  -- a refused file wins over everything
+  pub file : (f : List ℕ) (a b d : ℕ) → outcomeOf f ≡ refused a b d → (r c : ℕ) → Refuses f r c a b d
+  -- 21: no such row or column
+  pub absent : (f : List ℕ) (t : Table) (n : ℕ) → outcomeOf f ≡ accepted t n → (r c : ℕ) → (IsThere t n r c → ⊥) → Refuses f r c 21 0 0
+  pub there : (f : List ℕ) (t : Table) (n : ℕ) → outcomeOf f ≡ accepted t n → (r c : ℕ) → IsThere t n r c → Answers f t r c
+
+-- ---- "Decimals": a measured or DEPTH decimal is missing exactly when it equals -999, in any spelling
+abbrev pub MissingExactly : Type 0
+MissingExactly = (f : List ℕ) (t : Table) (n : ℕ) → outcomeOf f ≡ accepted t n → (r c : ℕ) → IsThere t n r c
+    → (columnKind t c ≡ measured) ⊎ (columnKind t c ≡ depth)
+    → (readingFor f r c ≡ Missing) ↔ (millionthsOf (cellVerdict t f r c) ≡ negℤ (pos 999000000))
+
+-- ---- "Profiles": the missing readings of the check are the row and measured column pairs that read as missing
+abbrev pub isMissingReading : Reading → Bool
+isMissingReading (Present m v) = false
+isMissingReading Missing = true
+isMissingReading (Refused a b c) = false
+
+-- whether column c of a file is measured; a refused file has none
+abbrev pub measuredBy : ℕ → Outcome → Bool
+measuredBy c (accepted t n) = isMeasured t c
+measuredBy c (refused a b d) = false
+
+abbrev pub measuredIn : List ℕ → ℕ → Bool
+measuredIn f c = measuredBy c (outcomeOf f)
+
+-- the sum of g over the n numbers from k on
+unfoldable pub sumFrom : ℕ → ℕ → (ℕ → ℕ) → ℕ
+sumFrom k zero g = 0
+sumFrom k (suc n) g = g k + sumFrom (k + 1) n g
+
+-- a pair counts one where the decimal call itself reads it as missing
+abbrev pub pairCount : List ℕ → ℕ → ℕ → ℕ
+pairCount f r c = cond (measuredIn f c && isMissingReading (readingFor f r c)) 1 0
+
+unfoldable pub missingPairs : List ℕ → ℕ
+missingPairs f = sumFrom 1 (checkedOf f .rows) (λ r. sumFrom 1 (checkedOf f .columns) (λ c. pairCount f r c))
+
+abbrev pub MissingCounted : Type 0
+MissingCounted = (f : List ℕ) → checkedOf f .missing ≡ missingPairs f
