@@ -16,3 +16,5 @@ pub mod GridLaws
 pub mod AskLaws
 pub mod AskedLaws
 pub mod MissingLaws
+pub mod LabelLaws
+pub mod ProfileLaws

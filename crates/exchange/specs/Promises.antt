@@ -1,6 +1,6 @@
 -- Laws of the answers that a reader wants to see stated, in document 01's words; the equations of the calls cite the definitions that these laws are about.
--- A term of each type stands in proofs/: AskedLaws, MissingLaws.
-use Prim.Native.Nat.{ℕ, zero, suc, _+_, _≤_}
+-- A term of each type stands in proofs/: AskedLaws, MissingLaws, ProfileLaws.
+use Prim.Native.Nat.{ℕ, zero, suc, _+_, _≤_, _<_}
 use mathlib.Core.Path.{_≡_}
 use mathlib.Core.Logic.{_↔_, _⊎_}
 use mathlib.Core.List.{List, [], _∷_}
@@ -12,9 +12,12 @@ use Rattle.text.specs.declared.Reading.the-variants.{Present, Missing, Refused}
 use Rattle.text.specs.Decimals.{Verdict, blank, wrong, outOfRange, good}
 use Rattle.text.specs.Judge.{Kind, measured, depth, flag, ctdFlag, kindOf, judge}
 use Rattle.text.specs.Reading.{signed, readNumber, isDecimal}
+use Rattle.exchange.specs.Columns.{bottle, ctd, kindsOf}
 use Rattle.exchange.specs.Places.{Table, Outcome, accepted, refused, outcomeOf}
-use Rattle.exchange.specs.Answers.{checkedOf, askedOf, kindAt, cellText, cellPlace, trimmedPlace, cellOf, refusalBy, readingFor, flaggedOf}
+use Rattle.exchange.specs.Profiles.{Key, keyOf}
+use Rattle.exchange.specs.Answers.{checkedOf, askedOf, kindAt, rowCells, cellText, cellPlace, trimmedPlace, cellOf, refusalBy, readingFor, flaggedOf}
 use Rattle.exchange.specs.Located.{isMeasured, nowhere}
+use Rattle.exchange.specs.Records.{noProfile, profileOf}
 
 -- ---- a row and a column, counted from 1, of a file with the table t and n rows
 abbrev pub IsThere : Table → ℕ → ℕ → ℕ → Type 0
@@ -104,3 +107,37 @@ missingPairs f = sumFrom 1 (checkedOf f .rows) (λ r. sumFrom 1 (checkedOf f .co
 
 abbrev pub MissingCounted : Type 0
 MissingCounted = (f : List ℕ) → checkedOf f .missing ≡ missingPairs f
+
+-- ---- "Profiles": the profiles of an accepted file, by the check's count and their own records
+-- the key of row r: EXPOCODE, STNNBR (trimmed bytes) and CASTNO (as a number)
+abbrev pub rowKey : Table → List ℕ → ℕ → Key
+rowKey t f r = keyOf (kindsOf (t .names)) (rowCells t f r)
+
+-- row r is in profile k: there is such a profile, and r is one of its so many rows from its first on
+pub record InProfile (f : List ℕ) (k r : ℕ) : Type 0 where
+  pub known : profileOf f k .number ≡ 0
+  pub from : profileOf f k .first ≤ r
+  pub to : r < profileOf f k .first + profileOf f k .rows
+
+pub record Profiled (f : List ℕ) (t : Table) (n : ℕ) : Type 0 where
+  -- 21 exactly for profile 0 and for those beyond the check's count
+  pub zeroth : profileOf f 0 ≡ noProfile 21 0 0
+  pub beyond : (k : ℕ) → checkedOf f .profiles < k → profileOf f k ≡ noProfile 21 0 0
+  pub known : (k : ℕ) → 1 ≤ k → k ≤ checkedOf f .profiles → (profileOf f k .number ≡ 0) × (profileOf f k .line ≡ 0) × (profileOf f k .column ≡ 0)
+  -- they part the rows: the first begins with row 1, each other one after the last row of the one before, the last one ends with row n; none is empty
+  pub begins : profileOf f 1 .first ≡ 1
+  pub follows : (k : ℕ) → 1 ≤ k → k < checkedOf f .profiles → profileOf f (k + 1) .first ≡ profileOf f k .first + profileOf f k .rows
+  pub ends : profileOf f (checkedOf f .profiles) .first + profileOf f (checkedOf f .profiles) .rows ≡ n + 1
+  pub some : (k : ℕ) → 1 ≤ k → k ≤ checkedOf f .profiles → 1 ≤ profileOf f k .rows
+  -- so each row is in exactly one
+  pub held : (r : ℕ) → 1 ≤ r → r ≤ n → (k : ℕ) × InProfile f k r
+  pub once : (k j r : ℕ) → InProfile f k r → InProfile f j r → k ≡ j
+  -- a CTD file is one profile
+  pub whole : t .sort ≡ ctd → checkedOf f .profiles ≡ 1
+  -- in a bottle file one is a longest run of equal keys: they are equal inside it, and differ where another one begins
+  pub equal : t .sort ≡ bottle → (k r s : ℕ) → InProfile f k r → InProfile f k s → rowKey t f r ≡ rowKey t f s
+  pub border : t .sort ≡ bottle → (k j r : ℕ) → InProfile f k r → InProfile f j (r + 1) → (k ≡ j → ⊥) → rowKey t f r ≡ rowKey t f (r + 1) → ⊥
+
+pub record ProfilesPart : Type 0 where
+  pub file : (f : List ℕ) (a b c : ℕ) → outcomeOf f ≡ refused a b c → (k : ℕ) → profileOf f k ≡ noProfile a b c
+  pub part : (f : List ℕ) (t : Table) (n : ℕ) → outcomeOf f ≡ accepted t n → Profiled f t n
