@@ -18,3 +18,6 @@ pub mod AskedLaws
 pub mod MissingLaws
 pub mod LabelLaws
 pub mod ProfileLaws
+pub mod RuleOrderLaws
+pub mod RuleNumberLaws
+pub mod FirstBrokenLaws

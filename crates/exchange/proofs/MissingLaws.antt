@@ -12,16 +12,18 @@ use lib.IntN.{ℤ, pos, negℤ}
 use borrow.Author.Tests.{eqb-true, eqb-false, eq-eqb, ne-eqb, ltb-false}
 use Rattle.text.specs.declared.Reading.the-variants.{Present, Missing}
 use Rattle.text.specs.Decimals.{Verdict, blank, wrong, outOfRange, good}
-use Rattle.text.specs.Judge.{Kind, measured, depth, kindOf, judge, judgedOf}
+use Rattle.text.specs.Judge.{Kind, measured, latitude, longitude, depth, kindOf, judge, judgedOf}
 use Rattle.text.specs.Reading.{signed, doubleOf, isMissing, readNumber, isDecimal, readingOf}
 use Rattle.text.specs.Rows.{isMissingNumber, missingIn}
+use Rattle.text.proofs.DecimalLaws.{Small}
+use Rattle.text.proofs.JudgeLaws.{largest, judge-small}
 use Rattle.text.proofs.ReadingLaws.{decimal-below, reading-missing}
 use Rattle.exchange.specs.Columns.{kindOfName, kindsOf}
 use Rattle.exchange.specs.Places.{Table, Outcome, accepted, refused, outcomeOf}
 use Rattle.exchange.specs.Profiles.{missingInRow, missingInRows}
-use Rattle.exchange.specs.Answers.{checkedBy, checkedOf, kindAt, rowsIn, rowCells, missingOf, readingBy, readingFor}
+use Rattle.exchange.specs.Answers.{checkedBy, checkedOf, kindAt, rowsIn, rowCells, cellText, missingOf, readingBy, readingFor}
 use Rattle.exchange.specs.Located.{isMeasured}
-use Rattle.exchange.specs.Promises.{IsThere, columnKind, cellVerdict, millionthsOf, MissingExactly, isMissingReading, measuredBy, sumFrom, missingPairs, MissingCounted}
+use Rattle.exchange.specs.Promises.{IsThere, columnKind, cellVerdict, millionthsOf, MissingExactly, PresentThere, isMissingReading, measuredBy, sumFrom, missingPairs, MissingCounted}
 use Rattle.exchange.proofs.AskedLaws.{Good, rows-many, row-in, row-many, cell-good, asked-there, reading-there}
 
 -- ---- a decimal is missing exactly when it equals -999
@@ -70,6 +72,28 @@ number-missing blank g = let z : _≡_ {A = ℕ} 0 1 = cc (g .is) in absurd (ome
 number-missing wrong g = let z : _≡_ {A = ℕ} 0 1 = cc (g .is) in absurd (omega arith)
 number-missing outOfRange g = let z : _≡_ {A = ℕ} 0 1 = cc (g .is) in absurd (omega arith)
 number-missing (good m s d) g = shown (isMissing (signed m s)) (signed m s) ∙ signed-missing m s
+
+-- ---- a latitude or longitude is never so large
+small-present : (m : Bool) (s : ℕ) → s ≤ 180000000 → readNumber (signed m s) ≡ Present (signed m s) (doubleOf (signed m s))
+small-present m s h = rw (signed-missing m s, ne-eqb s 999000000 (λ e. omega arith)) (go m)
+  where
+    go : (m : Bool) → cond (m && false) Missing (Present (signed m s) (doubleOf (signed m s))) ≡ Present (signed m s) (doubleOf (signed m s))
+    go true = refl
+    go false = refl
+
+place-present : (k : Kind) (u : List ℕ) → largest k ≤ 180000000 → Good (judge k u) → readNumber (millionthsOf (judge k u)) ≡ Present (millionthsOf (judge k u)) (doubleOf (millionthsOf (judge k u)))
+place-present k u h g =
+    let s : Small (largest k) 6 (good (g .minus) (g .size) (g .decimals)) = subst (Small (largest k) 6) (g .is) (judge-small k u) in
+    rw (g .is) (small-present (g .minus) (g .size) (omega (arith, s .0, h)))
+
+place-largest : (k : Kind) → (k ≡ latitude) ⊎ (k ≡ longitude) → (isDecimal k ≡ true) × (largest k ≤ 180000000)
+place-largest k (inl e) = rw e (refl, omega arith)
+place-largest k (inr e) = rw e (refl, omega arith)
+
+pub present-there : PresentThere
+present-there f t n e r c h k =
+    let w = place-largest (columnKind t c) k in
+    reading-there f t n e r c h (w .0) ∙ place-present (columnKind t c) (cellText t f r c) (w .1) (cell-good f t n e r c h)
 
 module _ (f : List ℕ) (t : Table) (n : ℕ) (e : outcomeOf f ≡ accepted t n) where
   -- what a pair counts, by the decimal call

@@ -1,23 +1,25 @@
 -- Laws of the answers that a reader wants to see stated, in document 01's words; the equations of the calls cite the definitions that these laws are about.
--- A term of each type stands in proofs/: AskedLaws, MissingLaws, ProfileLaws.
+-- A term of each type stands in proofs/: AskedLaws, MissingLaws, ProfileLaws, FirstBrokenLaws.
 use Prim.Native.Nat.{ℕ, zero, suc, _+_, _≤_, _<_}
 use mathlib.Core.Path.{_≡_}
 use mathlib.Core.Logic.{_↔_, _⊎_}
-use mathlib.Core.List.{List, [], _∷_}
+use mathlib.Core.List.{List, [], _∷_, _++_}
 use mathlib.Core.Bool.{Bool, true, false, cond, _&&_}
 use lib.ListN.{length}
 use lib.IntN.{ℤ, pos, negℤ}
 use Rattle.text.specs.declared.Reading.{Reading}
 use Rattle.text.specs.declared.Reading.the-variants.{Present, Missing, Refused}
 use Rattle.text.specs.Decimals.{Verdict, blank, wrong, outOfRange, good}
-use Rattle.text.specs.Judge.{Kind, measured, depth, flag, ctdFlag, kindOf, judge}
-use Rattle.text.specs.Reading.{signed, readNumber, isDecimal}
+use Rattle.text.specs.Judge.{Kind, measured, latitude, longitude, depth, flag, ctdFlag, kindOf, judge}
+use Rattle.text.specs.Reading.{signed, doubleOf, readNumber, isDecimal}
+use Rattle.exchange.specs.Faults.{Fault, clean, breaks}
 use Rattle.exchange.specs.Columns.{bottle, ctd, kindsOf}
-use Rattle.exchange.specs.Places.{Table, Outcome, accepted, refused, outcomeOf}
+use Rattle.exchange.specs.Places.{Table, after, Outcome, accepted, refused, outcomeOf}
 use Rattle.exchange.specs.Profiles.{Key, keyOf}
 use Rattle.exchange.specs.Answers.{checkedOf, askedOf, kindAt, rowCells, cellText, cellPlace, trimmedPlace, cellOf, refusalBy, readingFor, flaggedOf}
 use Rattle.exchange.specs.Located.{isMeasured, nowhere}
 use Rattle.exchange.specs.Records.{noProfile, profileOf}
+use Rattle.exchange.specs.RuleOrder.{linesIn, placeBefore, rulesOf}
 
 -- ---- a row and a column, counted from 1, of a file with the table t and n rows
 abbrev pub IsThere : Table → ℕ → ℕ → ℕ → Type 0
@@ -78,6 +80,12 @@ abbrev pub MissingExactly : Type 0
 MissingExactly = (f : List ℕ) (t : Table) (n : ℕ) → outcomeOf f ≡ accepted t n → (r c : ℕ) → IsThere t n r c
     → (columnKind t c ≡ measured) ⊎ (columnKind t c ≡ depth)
     → (readingFor f r c ≡ Missing) ↔ (millionthsOf (cellVerdict t f r c) ≡ negℤ (pos 999000000))
+
+-- -999 is out of range in a LATITUDE or LONGITUDE column, so a reading there is present
+abbrev pub PresentThere : Type 0
+PresentThere = (f : List ℕ) (t : Table) (n : ℕ) → outcomeOf f ≡ accepted t n → (r c : ℕ) → IsThere t n r c
+    → (columnKind t c ≡ latitude) ⊎ (columnKind t c ≡ longitude)
+    → readingFor f r c ≡ Present (millionthsOf (cellVerdict t f r c)) (doubleOf (millionthsOf (cellVerdict t f r c)))
 
 -- ---- "Profiles": the missing readings of the check are the row and measured column pairs that read as missing
 abbrev pub isMissingReading : Reading → Bool
@@ -141,3 +149,35 @@ pub record Profiled (f : List ℕ) (t : Table) (n : ℕ) : Type 0 where
 pub record ProfilesPart : Type 0 where
   pub file : (f : List ℕ) (a b c : ℕ) → outcomeOf f ≡ refused a b c → (k : ℕ) → profileOf f k ≡ noProfile a b c
   pub part : (f : List ℕ) (t : Table) (n : ℕ) → outcomeOf f ≡ accepted t n → Profiled f t n
+
+-- ---- "Refusal numbers": the check says which rule is broken first, and where
+-- of some rules in their order: none is broken; rule n is, shown at column c, and none before it
+abbrev pub Kept : List Fault → Type 0
+Kept [] = Unit {0}
+Kept (r ∷ rs) = (r ≡ clean) × Kept rs
+
+pub record Broken (rs : List Fault) (n c : ℕ) : Type 0 where
+  pub before : List Fault
+  pub behind : List Fault
+  pub order : rs ≡ before ++ breaks n c ∷ behind
+  pub kept : Kept before
+
+-- rule n is the first that the file breaks: in line l, shown at column c, every line before keeping all its rules
+pub record FirstBroken (f : List ℕ) (n l c : ℕ) : Type 0 where
+  pub low : 1 ≤ l
+  pub high : l ≤ linesIn f
+  pub earlier : (k : ℕ) → 1 ≤ k → k < l → Kept (rulesOf f k)
+  pub here : Broken (rulesOf f l) n c
+
+-- every line keeps its rules, and so does the file's end
+abbrev pub AllKept : List ℕ → Type 0
+AllKept f = (l : ℕ) → 1 ≤ l → l ≤ linesIn f → Kept (rulesOf f l)
+
+-- the check refuses with n at l and c exactly where this is the first broken rule, which is one of 1 to 20, and accepts exactly where none is broken;
+-- an accepted file's table and rows are those to which its lines lead
+pub record ChecksFirst : Type 0 where
+  pub refuses : (f : List ℕ) (n l c : ℕ) → (outcomeOf f ≡ refused n l c) ↔ FirstBroken f n l c
+  pub shown : (f : List ℕ) → (checkedOf f .number ≡ 0 → ⊥) → FirstBroken f (checkedOf f .number) (checkedOf f .line) (checkedOf f .column)
+  pub numbers : (f : List ℕ) (n l c : ℕ) → FirstBroken f n l c → (1 ≤ n) × (n ≤ 20)
+  pub accepts : (f : List ℕ) → (checkedOf f .number ≡ 0) ↔ AllKept f
+  pub table : (f : List ℕ) (t : Table) (n : ℕ) → outcomeOf f ≡ accepted t n → placeBefore f (linesIn f) ≡ after t n
