@@ -14,3 +14,5 @@ pub mod SurveyLaws
 pub mod PlaceLaws
 pub mod GridLaws
 pub mod AskLaws
+pub mod JoinLaws
+pub mod UngridLaws
