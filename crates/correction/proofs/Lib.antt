@@ -1,0 +1,3 @@
+pub mod GeometryLaws
+pub mod WriteLaws
+pub mod PlanLaws
