@@ -16,3 +16,6 @@ pub mod GridLaws
 pub mod AskLaws
 pub mod JoinLaws
 pub mod UngridLaws
+pub mod RowKeepLaws
+pub mod LineKeepLaws
+pub mod WriteLaws

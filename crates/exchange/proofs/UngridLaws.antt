@@ -4,13 +4,15 @@
 --   clean-grid : Clean (grid f)
 --   lines-ungrid : Clean g → pieces 10 (ungrid g) ≡ map (join 44) g
 --   cells-row : CleanRow r → pieces 44 (join 44 r) ≡ r;  row-free : CleanRow r → Free 10 (join 44 r)
+--   ungrid-set : ungrid (set (grid f) i r) ≡ join 10 (set (pieces 10 f) i (join 44 r))
 --   clean-row-set, clean-set : a cell without comma and line feed, and a row of such, may be put in the place of another
-use Prim.Native.Nat.{ℕ, zero, suc}
-use mathlib.Core.Path.{_≡_, refl, sym, ap, _∙_}
+use Prim.Native.Nat.{ℕ, zero, suc, _<_}
+use mathlib.Core.Path.{_≡_, refl, ap, _∙_}
 use mathlib.Core.Bool.{Bool, true, false, cond}
 use mathlib.Core.List.{List, [], _∷_, _++_, map}
+use native.Mathlib.Nat.{le-of-suc-le-suc, not-suc-le-zero}
 use lib.Dec.{eqb}
-use lib.ListN.{set}
+use lib.ListN.{length, getD, set}
 use Rattle.text.specs.Cells.{firstPiece, laterPieces, pieces}
 use Rattle.exchange.specs.Grid.{joinLater, join, ungrid}
 use Rattle.exchange.specs.Profiles.{grid}
@@ -23,6 +25,11 @@ module _ {A : Type 0} (P : A → Type 0) where
   all-set [] i t a h = tt
   all-set (p ∷ ps) zero t a h = (h, a .1)
   all-set (p ∷ ps) (suc i) t a h = (a .0, all-set ps i t (a .1) h)
+
+  pub all-at : (d : A) (ps : List A) (i : ℕ) → All P ps → i < length ps → P (getD ps i d)
+  all-at d [] i a h = absurd (not-suc-le-zero h)
+  all-at d (p ∷ ps) zero a h = a .0
+  all-at d (p ∷ ps) (suc i) a h = all-at d ps i (a .1) (le-of-suc-le-suc h)
 
 module _ {A : Type 0} (P Q : A → Type 0) where
   pub all-weaken : (ps : List A) → ((x : A) → P x → Q x) → All P ps → All Q ps
@@ -119,6 +126,15 @@ joined (l ∷ ls) = rw (join-pieces 44 l, joined ls)
 
 pub ungrid-grid : (f : List ℕ) → ungrid (grid f) ≡ f
 ungrid-grid f = ap (join 10) (joined (pieces 10 f)) ∙ join-pieces 10 f
+
+map-join-set : (g : List (List (List ℕ))) (i : ℕ) (r : List (List ℕ)) → map (join 44) (set g i r) ≡ set (map (join 44) g) i (join 44 r)
+map-join-set [] i r = refl
+map-join-set (x ∷ g) zero r = refl
+map-join-set (x ∷ g) (suc i) r = ap (λ (ls : List (List ℕ)). join 44 x ∷ ls) (map-join-set g i r)
+
+-- a row replaced is a line replaced
+pub ungrid-set : (f : List ℕ) (i : ℕ) (r : List (List ℕ)) → ungrid (set (grid f) i r) ≡ join 10 (set (pieces 10 f) i (join 44 r))
+ungrid-set f i r = ap (join 10) (map-join-set (grid f) i r ∙ ap (λ (ls : List (List ℕ)). set ls i (join 44 r)) (joined (pieces 10 f)))
 
 pub lines-ungrid : (g : List (List (List ℕ))) → Clean g → pieces 10 (ungrid g) ≡ map (join 44) g
 lines-ungrid [] h = absurd h
