@@ -1,3 +1,5 @@
+pub mod DigitLaws
+pub mod TextLaws
 pub mod GeometryLaws
-pub mod WriteLaws
+pub mod PutLaws
 pub mod PlanLaws
