@@ -3,3 +3,5 @@ pub mod TextLaws
 pub mod GeometryLaws
 pub mod PutLaws
 pub mod PlanLaws
+pub mod UniqueLaws
+pub mod ColumnLaws

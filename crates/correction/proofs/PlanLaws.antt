@@ -22,7 +22,7 @@ use Rattle.correction.specs.declared.Answer.the-variants.{Applied, Refus
 use Rattle.correction.specs.Texts.{numberText, atRight}
 use Rattle.correction.specs.Corrections.{Order, isThere, badNumber, badFlag, tooLong, Test, test, testsOf, firstThat, textAt, ownTexts, answerBy, answerOf, patch, textsOf, filled, leftBy, correctedOf}
 use Rattle.correction.proofs.GeometryLaws.{Grid, Shape, widthsOf, shape, put, cellIn, cell-row, widthAt, width-cell, Inside, inside-of, shape-put, lineLong, begin, lines-long, put-patch, cell-bytes}
-use Rattle.correction.proofs.WriteLaws.{Write, puts, Fit}
+use Rattle.correction.proofs.PutLaws.{Put, puts, Fit}
 
 -- ---- the place of a cell, by the widths
 unfoldable pub spanAt : Shape → ℕ → ℕ → Span
@@ -115,21 +115,55 @@ answer-view f o = go (outcomeOf f)
     go (accepted t n) = rw (too-long t f o)
     go (refused a b c) = refl
 
+-- applied means that no test holds
+pub record Tests (t : Table) (n : ℕ) (sh : Shape) (o : Order) : Type 0 where
+  pub there : isThere t n o ≡ true
+  pub measured : isMeasured t (o .column) ≡ true
+  pub number : badNumber o ≡ false
+  pub flag : badFlag t o ≡ false
+  pub fits : wide t sh o ≡ false
+
+pub not-applied : (a b c : ℕ) → Refused a b c ≡ Applied → ⊥
+not-applied a b c e = let z : _≡_ {A = ℕ} 0 1 = cc in omega arith
+
+-- in the list of the five tests
+abbrev five : Bool → Bool → Bool → Bool → Bool → Answer
+five a b c d e = firstThat (test 21 (not a) ∷ test 22 (not b) ∷ test 23 c ∷ test 24 d ∷ test 25 e ∷ [])
+
+five-false : (a b c d e : Bool) → five a b c d e ≡ Applied → (a ≡ true) × (b ≡ true) × (c ≡ false) × (d ≡ false) × (e ≡ false)
+unfolding firstThat
+five-false false b c d e h = absurd (not-applied 21 0 0 h)
+five-false true false c d e h = absurd (not-applied 22 0 0 h)
+five-false true true true d e h = absurd (not-applied 23 0 0 h)
+five-false true true false true e h = absurd (not-applied 24 0 0 h)
+five-false true true false false true h = absurd (not-applied 25 0 0 h)
+five-false true true false false false h = (refl, refl, refl, refl, refl)
+
+pub tests-kept : (t : Table) (n : ℕ) (sh : Shape) (o : Order) → decideIn t n sh o ≡ Applied → Tests t n sh o
+unfolding decideIn
+tests-kept t n sh o e =
+    let w = five-false (isThere t n o) (isMeasured t (o .column)) (badNumber o) (badFlag t o) (wide t sh o) e in
+    record { there = w .0; measured = w .1; number = w .2; flag = w .3; fits = w .4 }
+
+pub tests-applied : (t : Table) (n : ℕ) (sh : Shape) (o : Order) → Tests t n sh o → decideIn t n sh o ≡ Applied
+unfolding decideIn firstThat
+tests-applied t n sh o w = rw (w .there, w .measured, w .number, w .flag, w .fits)
+
 -- ---- the writes
-unfoldable pub writesTo : Shape → ℕ → List ℕ → List (List ℕ) → List Write
+unfoldable pub writesTo : Shape → ℕ → List ℕ → List (List ℕ) → List Put
 writesTo sh l [] xs = []
 writesTo sh l (c ∷ cs) [] = []
 writesTo sh l (c ∷ cs) (x ∷ xs) = record { line = l; col = c; text = atRight (widthAt sh l c) x } ∷ writesTo sh l cs xs
 
-abbrev pub writes : Outcome → Shape → Order → List Write
+abbrev pub writes : Outcome → Shape → Order → List Put
 writes (accepted t n) sh o = writesTo sh (lineOf t o) (cellColumns t (o .column)) (textsOf o)
 writes (refused a b c) sh o = []
 
-abbrev pub ifApplied : Answer → List Write → List Write
+abbrev pub ifApplied : Answer → List Put → List Put
 ifApplied Applied ws = ws
 ifApplied (Refused a b c) ws = []
 
-unfoldable pub plan : Outcome → Shape → Order → List Write
+unfoldable pub plan : Outcome → Shape → Order → List Put
 plan p sh o = ifApplied (decide p sh o) (writes p sh o)
 
 -- texts filled into cells are these writes
