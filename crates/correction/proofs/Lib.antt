@@ -5,3 +5,6 @@ pub mod PutLaws
 pub mod PlanLaws
 pub mod UniqueLaws
 pub mod ColumnLaws
+pub mod FitLaws
+pub mod KeepsLaws
+pub mod PairLaws
