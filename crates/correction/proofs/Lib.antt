@@ -8,3 +8,4 @@ pub mod ColumnLaws
 pub mod FitLaws
 pub mod KeepsLaws
 pub mod PairLaws
+pub mod ReadLaws
