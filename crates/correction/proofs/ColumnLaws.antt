@@ -20,7 +20,7 @@ use Rattle.exchange.proofs.JoinLaws.{All}
 use Rattle.correction.proofs.UniqueLaws.{Unique}
 use Rattle.correction.proofs.PlanLaws.{cellColumns}
 
-getD-map-in : {A B : Type 0} (f : A → B) (l : List A) (i : ℕ) (d : B) (e : A) → i < length l → getD (map f l) i d ≡ f (getD l i e)
+pub getD-map-in : {A B : Type 0} (f : A → B) (l : List A) (i : ℕ) (d : B) (e : A) → i < length l → getD (map f l) i d ≡ f (getD l i e)
 getD-map-in f [] i d e h = absurd (omega arith)
 getD-map-in f (x ∷ l) zero d e h = refl
 getD-map-in f (x ∷ l) (suc i) d e h = getD-map-in f l i d e (omega arith)

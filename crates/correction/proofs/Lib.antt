@@ -9,3 +9,4 @@ pub mod FitLaws
 pub mod KeepsLaws
 pub mod PairLaws
 pub mod ReadLaws
+pub mod RecordLaws
