@@ -124,11 +124,11 @@ answer-kept f o p =
 pub plan-kept : (f : List ℕ) (o p : Order) → planOf (correctedOf f o) p ≡ planOf f p
 plan-kept f o p = ap (λ (x : Outcome). plan x (shape (grid (correctedOf f o))) p) (keeps f o .end) ∙ ap (λ (sh : Shape). plan (outcomeOf f) sh p) (keeps f o .wide)
 
-abbrev placesBy : Outcome → Shape → ℕ → ℕ → List Span
+abbrev pub placesBy : Outcome → Shape → ℕ → ℕ → List Span
 placesBy (accepted t n) sh r c = map (spanAt sh (t .line + (r - 1))) (cellColumns t c)
 placesBy (refused x y z) sh r c = []
 
-places-view : (f : List ℕ) (r c : ℕ) → cellsOf f r c ≡ placesBy (outcomeOf f) (shape (grid f)) r c
+pub places-view : (f : List ℕ) (r c : ℕ) → cellsOf f r c ≡ placesBy (outcomeOf f) (shape (grid f)) r c
 places-view f r c = go (outcomeOf f)
   where
     go : (p : Outcome) → cellsBy f r c p ≡ placesBy p (shape (grid f)) r c

@@ -10,3 +10,4 @@ pub mod KeepsLaws
 pub mod PairLaws
 pub mod ReadLaws
 pub mod RecordLaws
+pub mod ExactLaws
