@@ -11,3 +11,5 @@ pub mod PairLaws
 pub mod ReadLaws
 pub mod RecordLaws
 pub mod ExactLaws
+pub mod ListLaws
+pub mod Demand3Laws
