@@ -6,11 +6,9 @@ use mathlib.Core.Bool.{Bool, true, false, cond, _&&_, and-eq-true-iff}
 use mathlib.Core.List.{List, [], _∷_, map}
 use native.Mathlib.Omega.{arith}
 use lib.ListN.{length, getD, length-map}
-use lib.Dec.{eqb, ltb}
 use borrow.Author.Tests.{ltb-true}
 use Rattle.text.specs.Bytes.{equal}
 use Rattle.text.specs.Names.{beginsCtd}
-use Rattle.text.specs.Catalogue.{names, kinds, kindIn}
 use Rattle.text.proofs.EqualLaws.{equal-same}
 use Rattle.exchange.specs.Columns.{isFlag, parameterOf, Column, columnOf, columnsOf, kindOfName, flagFrom, kindsOf}
 use Rattle.exchange.specs.Places.{Table}
@@ -83,11 +81,11 @@ flag-kind : (b : Bool) → (_≡_ {A = ℕ} (cond b 5 4) 0 → ⊥) × (cond b 5
 flag-kind true = ((λ e. omega arith), omega arith)
 flag-kind false = ((λ e. omega arith), omega arith)
 
-pub measured-no-flag : (t : Table) (c d j : ℕ) → kindAt t c ≡ 0 → FlagOf t d j → c - 1 ≡ j - 1 → ⊥
+measured-no-flag : (t : Table) (c d j : ℕ) → kindAt t c ≡ 0 → FlagOf t d j → c - 1 ≡ j - 1 → ⊥
 measured-no-flag t c d j m f e = flag-kind (beginsCtd (nameAt t d)) .0 (sym (f .kind) ∙ ap (λ (k : ℕ). getD (kindsOf (t .names)) k 0) (sym e) ∙ m)
 
 -- two columns have two flag columns
-pub flags-apart : (t : Table) (c d j k : ℕ) → Unique (t .names) → c - 1 < length (t .names) → d - 1 < length (t .names) → FlagOf t c j → FlagOf t d k → j - 1 ≡ k - 1 → c - 1 ≡ d - 1
+flags-apart : (t : Table) (c d j k : ℕ) → Unique (t .names) → c - 1 < length (t .names) → d - 1 < length (t .names) → FlagOf t c j → FlagOf t d k → j - 1 ≡ k - 1 → c - 1 ≡ d - 1
 flags-apart t c d j k u h l f g e = u (c - 1) (d - 1) h l (sym (f .of) ∙ ap (λ (i : ℕ). parameterOf (getD (t .names) i [])) e ∙ g .of)
 
 -- ---- a measured column of the line, and its cells' columns
@@ -112,10 +110,16 @@ module _ (t : Table) (u : Unique (t .names)) where
       go true p false q = ((df, tt), (((λ e. measured-no-flag t d c (flagColumn t c) (n .kind) (flag-of t c (m .in-line) p) (sym e)), tt), tt))
       go true p true q =
           let f = flag-of t c (m .in-line) p in
-          let g = flag-of t d (n .in-line) q in
-          ((df, (measured-no-flag t c d (flagColumn t d) (m .kind) g, tt)),
-          (((λ e. measured-no-flag t d c (flagColumn t c) (n .kind) f (sym e)),
-          ((λ e. df (flags-apart t c d (flagColumn t c) (flagColumn t d) u (m .in-line) (n .in-line) f g e)), tt)), tt))
+          let g = flag-of t d (n .in-line) q in (
+            (df, (measured-no-flag t c d (flagColumn t d) (m .kind) g, tt)),
+            (
+              (
+                (λ e. measured-no-flag t d c (flagColumn t c) (n .kind) f (sym e)),
+                ((λ e. df (flags-apart t c d (flagColumn t c) (flagColumn t d) u (m .in-line) (n .in-line) f g e)), tt),
+              ),
+              tt,
+            ),
+          )
 
 -- the value column is not the flag column
 pub columns-distinct : (t : Table) (c : ℕ) → Measured t c → hasFlag t c ≡ true → c - 1 ≡ flagColumn t c - 1 → ⊥

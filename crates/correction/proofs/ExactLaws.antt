@@ -1,5 +1,5 @@
 -- A correction is refused exactly where a test holds, and otherwise its cells are filled just as said and no other byte changes.
-use Prim.Native.Nat.{ℕ, _+_, _-_, _≤_, _<_}
+use Prim.Native.Nat.{ℕ, _-_, _≤_}
 use mathlib.Core.Path.{_≡_, refl, sym, ap, _∙_, subst}
 use mathlib.Core.Bool.{Bool, true, false, cond}
 use mathlib.Core.List.{List, [], _∷_, map}
@@ -7,7 +7,6 @@ use native.Mathlib.Omega.{arith}
 use lib.ListN.{length, getD}
 use Rattle.text.specs.declared.Span.{Span}
 use Rattle.exchange.specs.Places.{Table, Outcome, accepted, refused, outcomeOf}
-use Rattle.exchange.specs.Grid.{ungrid}
 use Rattle.exchange.specs.Profiles.{grid}
 use Rattle.exchange.specs.Located.{flagColumn, hasFlag, cellsOf}
 use Rattle.exchange.proofs.JoinLaws.{All}
@@ -17,9 +16,9 @@ use Rattle.correction.specs.declared.Answer.the-variants.{Applied, Refus
 use Rattle.correction.specs.Texts.{atRight}
 use Rattle.correction.specs.Corrections.{Order, Test, testsOf, firstThat, textAt, ownTexts, answerBy, answerOf, textsOf, filled, leftBy, correctedOf}
 use Rattle.correction.specs.Demand3.{IsFirst, nothing, here, later, MayApply, setAtRight, Exactly, Within, InNone}
-use Rattle.correction.proofs.GeometryLaws.{Grid, Shape, shape, widthAt, begin}
-use Rattle.correction.proofs.PutLaws.{Put, puts, Fit, Stands, Outside}
-use Rattle.correction.proofs.PlanLaws.{spanAt, span-inside, text-place, cellColumns, lineOf, too-long, decideIn, decide, answer-view, not-applied, Tests, tests-kept, tests-applied, writesTo, writes, ifApplied, plan, corrected-view}
+use Rattle.correction.proofs.GeometryLaws.{Grid, Shape, shape}
+use Rattle.correction.proofs.PutLaws.{Fit, Stands, Outside}
+use Rattle.correction.proofs.PlanLaws.{spanAt, span-inside, text-place, cellColumns, lineOf, too-long, decideIn, decide, answer-view, not-applied, tests-kept, tests-applied, writesTo, writes, ifApplied, plan, corrected-view}
 use Rattle.correction.proofs.KeepsLaws.{planOf, keeps, done, placesBy, places-view}
 use Rattle.correction.proofs.PairLaws.{plan-distinct}
 

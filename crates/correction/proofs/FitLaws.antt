@@ -1,12 +1,12 @@
 -- The writes of an applied correction fit an accepted file: each text is one of plain bytes, as long as its cell, and good by the kind of its column.
 use Prim.Native.Nat.{ℕ, zero, suc, _+_, _-_, _%_, _^_, _≤_, _<_}
-use mathlib.Core.Path.{_≡_, refl, sym, ap, _∙_, subst}
+use mathlib.Core.Path.{_≡_, refl, sym, ap, _∙_}
 use mathlib.Core.Bool.{Bool, true, false, cond, not, _&&_, _||_, true≢false, false≢true, and-eq-true-iff}
 use mathlib.Core.List.{List, [], _∷_, map}
 use native.Mathlib.Omega.{arith}
 use lib.ListN.{length, getD, length-map, List·getD-map}
 use lib.Dec.{eqb, leb, ltb}
-use borrow.Author.Tests.{leb-true, ltb-true, ltb-false, eqb-true, not-true, not-false}
+use borrow.Author.Tests.{leb-true, ltb-true, ltb-false, eqb-true, not-false}
 use Rattle.text.specs.Bytes.{every}
 use Rattle.text.specs.Names.{beginsCtd}
 use Rattle.text.specs.Decimals.{Verdict, blank, wrong, outOfRange, good}
@@ -15,8 +15,8 @@ use Rattle.text.specs.Judge.{kindOf, judge}
 use Rattle.text.specs.Rows.{isGood}
 use Rattle.text.proofs.EveryLaws.{every-cons}
 use Rattle.text.proofs.LineLaws as line
-use Rattle.exchange.specs.Faults.{clean, breaks, _then_, unless, kindFault}
-use Rattle.exchange.specs.Columns.{kindOfName, kindsOf}
+use Rattle.exchange.specs.Faults.{clean, _then_, unless, kindFault}
+use Rattle.exchange.specs.Columns.{kindsOf}
 use Rattle.exchange.specs.Rows.{cellFaults, rowFault, rowRules}
 use Rattle.exchange.specs.Places.{Table, accepted, outcomeOf}
 use Rattle.exchange.specs.Profiles.{grid}
@@ -25,15 +25,14 @@ use Rattle.exchange.specs.Located.{nameAt, flagColumn, hasFlag}
 use Rattle.exchange.proofs.HeaderLaws.{then-clean, breaks-clean}
 use Rattle.exchange.proofs.GridLaws.{cells-many}
 use Rattle.exchange.proofs.JoinLaws.{Free, All}
-use Rattle.exchange.proofs.UngridLaws.{all-weaken}
 use Rattle.exchange.proofs.WriteLaws.{RowHolds, row-holds, Fits}
 use Rattle.correction.specs.Texts.{size, numberText, flagText, atRight}
-use Rattle.correction.specs.Corrections.{Order, isThere, badNumber, inSet, badFlag, textsOf}
+use Rattle.correction.specs.Corrections.{Order, badNumber, inSet, badFlag, textsOf}
 use Rattle.correction.proofs.DigitLaws.{every-from}
 use Rattle.correction.proofs.TextLaws.{atRight-length, isPlain, number-plain, flag-plain, Writable, number-judged, flag-judged}
-use Rattle.correction.proofs.GeometryLaws.{Grid, Shape, shape, cell-row, widthAt, width-cell, inside-of}
+use Rattle.correction.proofs.GeometryLaws.{Shape, shape, cell-row, widthAt, width-cell, inside-of}
 use Rattle.correction.proofs.PutLaws.{Put, Fit, inRow}
-use Rattle.correction.proofs.PlanLaws.{cellColumns, lineOf, wide, Tests, writesTo, writes}
+use Rattle.correction.proofs.PlanLaws.{cellColumns, lineOf, Tests, writesTo, writes}
 use Rattle.correction.proofs.ColumnLaws.{FlagOf, flag-of, Measured}
 
 -- ---- what an applied correction asks for

@@ -73,7 +73,7 @@ inside-of [] l c k = absurd (omega arith)
 inside-of (r ∷ g) zero c k = subst (λ (n : ℕ). c < n) (sym (length-map r length)) k
 inside-of (r ∷ g) (suc l) c k = inside-of g l c k
 
-pub inside-cell : (g : Grid) (l c : ℕ) → Inside (shape g) l c → c < length (getD g l [])
+inside-cell : (g : Grid) (l c : ℕ) → Inside (shape g) l c → c < length (getD g l [])
 inside-cell [] l c h = absurd h
 inside-cell (r ∷ g) zero c h = subst (λ (n : ℕ). c < n) (length-map r length) h
 inside-cell (r ∷ g) (suc l) c h = inside-cell g l c h

@@ -1,7 +1,6 @@
 -- The key law, for any file and any correction, refused or not: the outcome stays, the widths of all cells stay, and the grid is changed by the plan alone.
 use Prim.Native.Nat.{ℕ, _+_, _-_, _<_}
 use mathlib.Core.Path.{_≡_, refl, sym, ap, _∙_, subst}
-use mathlib.Core.Bool.{Bool, true, false, cond}
 use mathlib.Core.List.{List, [], _∷_, map}
 use native.Mathlib.Omega.{arith}
 use lib.ListN.{length, getD, length-map, length-drop}
@@ -33,7 +32,7 @@ all-rows : (P : Put → Type 0) (ks widths : List ℕ) (ws : List Put) (l : ℕ)
 all-rows P ks widths [] l h a b = tt
 all-rows P ks widths (w ∷ ws) l h a b = (h w (a .0) (b .0), all-rows P ks widths ws l h (a .1) (b .1))
 
-pub on-line : (sh : Shape) (l : ℕ) (cs : List ℕ) (xs : List (List ℕ)) → All (λ w. w .line ≡ l) (writesTo sh l cs xs)
+on-line : (sh : Shape) (l : ℕ) (cs : List ℕ) (xs : List (List ℕ)) → All (λ w. w .line ≡ l) (writesTo sh l cs xs)
 unfolding writesTo
 on-line sh l [] xs = tt
 on-line sh l (c ∷ cs) [] = tt

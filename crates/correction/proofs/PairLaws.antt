@@ -1,11 +1,11 @@
 -- Two corrections: of different measurements, either order leaves the same bytes; of one measurement, the later alone.
-use Prim.Native.Nat.{ℕ, _+_, _-_}
+use Prim.Native.Nat.{ℕ, _-_}
 use mathlib.Core.Path.{_≡_, refl, sym, ap, _∙_, subst}
 use mathlib.Core.Bool.{Bool, true, false, cond}
 use mathlib.Core.List.{List, [], _∷_}
 use native.Mathlib.Omega.{arith}
 use lib.ListN.{length}
-use Rattle.exchange.specs.Places.{Table, Outcome, accepted, refused, outcomeOf}
+use Rattle.exchange.specs.Places.{Outcome, accepted, refused, outcomeOf}
 use Rattle.exchange.specs.Grid.{ungrid}
 use Rattle.exchange.specs.Profiles.{grid}
 use Rattle.exchange.specs.Located.{flagColumn, hasFlag}
@@ -95,7 +95,7 @@ plans-alike (accepted t n) sh o q er ec a b =
     (writes-alike sh (lineOf t o) (lineOf t q) (cellColumns t (o .column)) (textsOf o) (textsOf q) l refl))
 
 -- ---- one after the other
-pub two : (f : List ℕ) (o q : Order) → correctedOf (correctedOf f o) q ≡ ungrid (puts (puts (grid f) (planOf f o)) (planOf f q))
+two : (f : List ℕ) (o q : Order) → correctedOf (correctedOf f o) q ≡ ungrid (puts (puts (grid f) (planOf f o)) (planOf f q))
 two f o q =
     corrected-view (correctedOf f o) q (keeps (correctedOf f o) q .fit)
     ∙ ap (λ (ws : List Put). ungrid (puts (grid (correctedOf f o)) ws)) (plan-kept f o q)

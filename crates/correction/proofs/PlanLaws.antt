@@ -1,6 +1,6 @@
 -- A correction seen from outside the bytes: its answer and its writes come from the file's outcome and the widths of its cells alone, and the bytes it
 -- leaves are the file's grid with these writes.
-use Prim.Native.Nat.{ℕ, zero, suc, _+_, _-_, _≤_, _<_}
+use Prim.Native.Nat.{ℕ, zero, suc, _+_, _-_, _<_}
 use mathlib.Core.Path.{_≡_, refl, sym, ap, _∙_, subst}
 use mathlib.Core.Bool.{Bool, true, false, cond, not}
 use mathlib.Core.List.{List, [], _∷_, map}
@@ -20,7 +20,7 @@ use Rattle.exchange.proofs.UngridLaws.{clean-grid, ungrid-grid, lines-ungrid}
 use Rattle.correction.specs.declared.Answer.{Answer}
 use Rattle.correction.specs.declared.Answer.the-variants.{Applied, Refused}
 use Rattle.correction.specs.Texts.{numberText, atRight}
-use Rattle.correction.specs.Corrections.{Order, isThere, badNumber, badFlag, tooLong, Test, test, testsOf, firstThat, textAt, ownTexts, answerBy, answerOf, patch, textsOf, filled, leftBy, correctedOf}
+use Rattle.correction.specs.Corrections.{Order, isThere, badNumber, badFlag, tooLong, test, firstThat, textAt, ownTexts, answerBy, answerOf, patch, textsOf, filled, leftBy, correctedOf}
 use Rattle.correction.proofs.GeometryLaws.{Grid, Shape, widthsOf, shape, put, cellIn, cell-row, widthAt, width-cell, Inside, inside-of, shape-put, lineLong, begin, lines-long, put-patch, cell-bytes}
 use Rattle.correction.proofs.PutLaws.{Put, puts, Fit}
 
@@ -37,10 +37,10 @@ pub span-inside : (sh : Shape) (l c : ℕ) → Inside sh l c → spanAt sh l c �
 unfolding spanAt
 span-inside sh l c h = rw (lt-ltb c (length (getD sh l [])) (inside-row sh l c h))
 
-pub lines-joined : (f : List ℕ) → map (join 44) (grid f) ≡ pieces 10 f
+lines-joined : (f : List ℕ) → map (join 44) (grid f) ≡ pieces 10 f
 lines-joined f = sym (lines-ungrid (grid f) (clean-grid f)) ∙ ap (pieces 10) (ungrid-grid f)
 
-pub place-shape : (t : Table) (f : List ℕ) (r c : ℕ) → cellPlace t f r c ≡ spanAt (shape (grid f)) (t .line + (r - 1)) (c - 1)
+place-shape : (t : Table) (f : List ℕ) (r c : ℕ) → cellPlace t f r c ≡ spanAt (shape (grid f)) (t .line + (r - 1)) (c - 1)
 unfolding spanIn spanAt begin
 place-shape t f r c = go (t .line + (r - 1)) (c - 1)
   where

@@ -1,9 +1,8 @@
 -- Writes into a grid: texts put at cells of their own width, one after the other. Writes to other cells commute, writes to the same cells are the later
 -- ones alone, and what fitting writes do to a grid: the widths stay, the texts stand, the bytes outside are the old ones.
-use Prim.Native.Nat.{ℕ, zero, suc, _+_, _<_}
+use Prim.Native.Nat.{ℕ, _<_}
 use mathlib.Core.Path.{_≡_, refl, sym, ap, _∙_, subst}
-use mathlib.Core.List.{List, [], _∷_, _++_, map}
-use native.Mathlib.Omega.{arith}
+use mathlib.Core.List.{List, [], _∷_, map}
 use lib.ListN.{length, getD, set}
 use lib.Seq.{set-set, set-getD, getD-set-same, lt-length-set, map-set-same}
 use Rattle.exchange.specs.Grid.{ungrid, Write, written}

@@ -1,33 +1,31 @@
 -- Reading back: where the writes of an applied correction stand in a file, the measurement reads as it ordered, by the file's own whole check.
-use Prim.Native.Nat.{ℕ, _+_, _-_, _≤_, _<_}
+use Prim.Native.Nat.{ℕ, _-_, _≤_, _<_}
 use mathlib.Core.Path.{_≡_, refl, sym, ap, _∙_, subst}
 use mathlib.Core.Bool.{Bool, true, false, cond, _||_}
 use mathlib.Core.List.{List, [], _∷_}
 use native.Mathlib.Omega.{arith}
-use lib.ListN.{length, getD, replicate, length-append, length-replicate}
+use lib.ListN.{length, replicate, length-append}
 use lib.Dec.{eqb}
 use borrow.Author.Tests.{lt-ltb}
-use Rattle.text.specs.declared.Reading.{Reading}
 use Rattle.text.specs.Names.{beginsCtd}
 use Rattle.text.specs.Decimals.{Verdict, good}
 use Rattle.text.specs.Judge.{kindOf, judge, judgedOf}
 use Rattle.text.specs.Reading.{readNumber, readingOf}
 use Rattle.text.specs.Rows.{sizeOf}
-use Rattle.exchange.specs.declared.Flagged.{Flagged}
 use Rattle.exchange.specs.Places.{Table, Outcome, accepted, refused, outcomeOf}
 use Rattle.exchange.specs.Profiles.{grid}
-use Rattle.exchange.specs.Answers.{Asked, found, askedBy, askedOf, kindAt, cellText, readingBy, readingFor, flaggedBy, flaggedOf}
+use Rattle.exchange.specs.Answers.{found, askedBy, askedOf, cellText, readingBy, readingFor, flaggedBy, flaggedOf}
 use Rattle.exchange.specs.Located.{nameAt, flagColumn, hasFlag, flagColumnBy, flagColumnOf}
 use Rattle.exchange.proofs.AskLaws as ask
 use Rattle.correction.specs.declared.Answer.{Answer}
-use Rattle.correction.specs.declared.Answer.the-variants.{Applied, Refused}
-use Rattle.correction.specs.Texts.{size, isBelow, numberText, flagText, atRight}
-use Rattle.correction.specs.Corrections.{Order, inSet, answerOf, textsOf, correctedOf}
+use Rattle.correction.specs.declared.Answer.the-variants.{Applied}
+use Rattle.correction.specs.Texts.{numberText, flagText, atRight}
+use Rattle.correction.specs.Corrections.{Order, answerOf, correctedOf}
 use Rattle.correction.specs.Demand3.{measurementOf, flagIs, ReadsAs}
 use Rattle.correction.proofs.TextLaws.{number-judged, number-signed, flag-judged}
 use Rattle.correction.proofs.GeometryLaws.{Grid, Shape, shape, cellIn, cell-row, widthAt, width-cell}
 use Rattle.correction.proofs.PutLaws.{Put, puts, Stands, stands-kept}
-use Rattle.correction.proofs.PlanLaws.{cellColumns, lineOf, decideIn, decide, answer-view, not-applied, tests-kept, writesTo, writes, ifApplied, plan}
+use Rattle.correction.proofs.PlanLaws.{cellColumns, lineOf, decide, answer-view, not-applied, tests-kept, writesTo, writes, ifApplied, plan}
 use Rattle.correction.proofs.ColumnLaws.{FlagOf, flag-of}
 use Rattle.correction.proofs.FitLaws as fit
 use Rattle.correction.proofs.KeepsLaws.{planOf, keeps, done, answer-kept, plan-kept}

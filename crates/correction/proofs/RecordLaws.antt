@@ -3,7 +3,7 @@
 use Prim.Native.Nat.{ℕ, zero, suc, _+_, _-_, _≤_, _<_}
 use mathlib.Core.Path.{_≡_, refl, sym, ap, _∙_, subst}
 use mathlib.Core.Bool.{Bool, true, false, cond}
-use mathlib.Core.List.{List, [], _∷_, _++_, map}
+use mathlib.Core.List.{List, [], _∷_, map}
 use native.Mathlib.Omega.{arith}
 use lib.ListN.{length, getD, set, take, drop}
 use lib.Dec.{eqb, ltb}
@@ -15,8 +15,6 @@ use Rattle.text.specs.Names.{parameterLength}
 use Rattle.text.specs.Judge.{kindOf, judge}
 use Rattle.text.specs.Catalogue.{listed, base256, insert, ordered, flat, names, kinds, searchFrom, lookUp, kindIn}
 use Rattle.text.specs.Rows.{sizeOf}
-use Rattle.exchange.specs.declared.CastTime.{CastTime}
-use Rattle.exchange.specs.declared.Profile.{Profile}
 use Rattle.exchange.specs.Faults.{placeIn}
 use Rattle.exchange.specs.Headers.{Header}
 use Rattle.exchange.specs.Columns.{Sort, bottle, ctd, kindOfName, kindsOf}
@@ -31,7 +29,7 @@ use Rattle.correction.specs.declared.Answer.the-variants.{Applied, Refus
 use Rattle.correction.specs.Corrections.{Order, textsOf, correctedOf}
 use Rattle.correction.specs.Demand3.{Kept}
 use Rattle.correction.proofs.GeometryLaws.{Grid, Shape, shape, cellIn, cell-row}
-use Rattle.correction.proofs.PutLaws.{Put, puts, Misses, cell-puts-other, map-puts}
+use Rattle.correction.proofs.PutLaws.{Put, Misses, cell-puts-other, map-puts}
 use Rattle.correction.proofs.PlanLaws.{cellColumns, lineOf, decideIn, tests-kept, writesTo, writes, ifApplied, plan}
 use Rattle.correction.proofs.ColumnLaws.{getD-map-in, columns-kinds}
 use Rattle.correction.proofs.FitLaws.{asked}
