@@ -20,3 +20,10 @@ pub mod RowKeepLaws
 pub mod LineKeepLaws
 pub mod WriteLaws
 pub mod LocateLaws
+pub mod AskedLaws
+pub mod MissingLaws
+pub mod LabelLaws
+pub mod ProfileLaws
+pub mod RuleOrderLaws
+pub mod RuleNumberLaws
+pub mod FirstBrokenLaws

@@ -1,0 +1,15 @@
+pub mod DigitLaws
+pub mod TextLaws
+pub mod GeometryLaws
+pub mod PutLaws
+pub mod PlanLaws
+pub mod UniqueLaws
+pub mod ColumnLaws
+pub mod FitLaws
+pub mod KeepsLaws
+pub mod PairLaws
+pub mod ReadLaws
+pub mod RecordLaws
+pub mod ExactLaws
+pub mod ListLaws
+pub mod Demand3Laws
