@@ -1,0 +1,3 @@
+pub mod OneLineLaws
+pub mod FieldLaws
+pub mod ListLineLaws
