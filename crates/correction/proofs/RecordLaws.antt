@@ -23,7 +23,7 @@ use Rattle.exchange.specs.Profiles.{grid, cellOfKind, Key, keyOf, runCount, row
 use Rattle.exchange.specs.Answers.{rowsIn, profilesBy, checkedBy, checkedOf, cellText, cellPlace}
 use Rattle.exchange.specs.Records.{Value, given, absent, headerPlace, headerValue, headersLine, columnValue, valueBy, stationValue, labelsBy, profileRows, numberIn, castTime, recordOf, profileBy, profileOf}
 use Rattle.exchange.proofs.NameLaws.{place-name}
-use Rattle.exchange.proofs.JoinLaws.{All}
+use Rattle.laws.proofs.JoinLaws.{All}
 use Rattle.correction.specs.declared.Answer.{Answer}
 use Rattle.correction.specs.declared.Answer.the-variants.{Applied, Refused}
 use Rattle.correction.specs.Corrections.{Order, textsOf, correctedOf}

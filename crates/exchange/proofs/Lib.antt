@@ -14,16 +14,4 @@ pub mod SurveyLaws
 pub mod PlaceLaws
 pub mod GridLaws
 pub mod AskLaws
-pub mod JoinLaws
-pub mod UngridLaws
-pub mod RowKeepLaws
-pub mod LineKeepLaws
-pub mod WriteLaws
 pub mod LocateLaws
-pub mod AskedLaws
-pub mod MissingLaws
-pub mod LabelLaws
-pub mod ProfileLaws
-pub mod RuleOrderLaws
-pub mod RuleNumberLaws
-pub mod FirstBrokenLaws

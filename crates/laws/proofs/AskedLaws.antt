@@ -17,17 +17,17 @@ use Rattle.text.specs.Reading.{readNumber, isDecimal, readingOf}
 use Rattle.text.specs.Spaces.{trim}
 use Rattle.text.proofs.DecimalLaws.{Small}
 use Rattle.text.proofs.JudgeLaws.{judge-small}
 use Rattle.exchange.specs.declared.Flagged.{Flagged}
 use Rattle.exchange.specs.Faults.{Fault, clean, breaks, _then_, unless, kindFault}
 use Rattle.exchange.specs.Columns.{kindOfName, kindsOf}
 use Rattle.exchange.specs.Rows.{cellFaults, rowRules}
 use Rattle.exchange.specs.Places.{Table, accepted, outcomeOf}
 use Rattle.exchange.specs.Profiles.{grid}
 use Rattle.exchange.specs.Answers.{found, missed, askedBy, askedOf, kindAt, rowsIn, rowCells, cellText, cellBy, cellOf, refusalBy, readingBy, readingFor, flaggedBy, flaggedOf}
-use Rattle.exchange.specs.Promises.{IsThere, columnKind, cellVerdict, millionthsOf, IsFlag, Refuses, GivesFlag, Answers, AskedExactly}
+use Rattle.laws.specs.Promises.{IsThere, columnKind, cellVerdict, millionthsOf, IsFlag, Refuses, GivesFlag, Answers, AskedExactly}
 use Rattle.exchange.proofs.AcceptLaws.{rows-kept}
 use Rattle.exchange.proofs.GridLaws.{getD-mapped, cells-many}
 use Rattle.exchange.proofs.AskLaws.{outside, inside-by, asked-inside, asked-outside}
 
 -- ---- the cells of an accepted file are good
 pub record Good (v : Verdict) : Type 0 where

@@ -15,14 +15,14 @@ use Rattle.text.specs.Decimals.{Verdict, blank, wrong, outOfRange, good}
 use Rattle.text.specs.Judge.{kindOf, judge}
 use Rattle.text.specs.Lines.{illFormed, returnAt, controlAt}
 use Rattle.text.proofs.CellLaws.{both-true}
 use Rattle.exchange.specs.Faults.{Fault, clean, breaks, _then_, unless, kindFault, member, hasAll}
 use Rattle.exchange.specs.LineRules.{foundFault, tooLong}
 use Rattle.exchange.specs.Headers.{Header, rawName, nameOf, valueOf, headerOf, namesIn, nameRule, headersSaid, headerKind, stationNames}
 use Rattle.exchange.specs.Columns.{Sort, bottle, ctd, isFlag, hasParameter, requiredNames, kindsOf}
 use Rattle.exchange.specs.Rows.{rowFault, isEndData}
 use Rattle.exchange.specs.Places.{Place, first, comments, headers, names, units, rows, after, stopped, isMark, isBottle, isCtd, isComment}
-use Rattle.exchange.specs.RuleOrder.{lineList, columnAt, cellByCell, nameAmong, nameList, flagList, namesList, cellList, rowList, lastHeader, firstHeaderList, headerList, topList, rulesAt, endRules, isAfter, linesIn, placeBefore, lineIn, rulesOf}
-use Rattle.exchange.proofs.RuleOrderLaws.{firstOf}
+use Rattle.laws.specs.RuleOrder.{lineList, columnAt, cellByCell, nameAmong, nameList, flagList, namesList, cellList, rowList, lastHeader, firstHeaderList, headerList, topList, rulesAt, endRules, isAfter, linesIn, placeBefore, lineIn, rulesOf}
+use Rattle.laws.proofs.RuleOrderLaws.{firstOf}
 
 -- a number of the table, by a test that computes
 abbrev inTable : ℕ → Bool

@@ -13,15 +13,15 @@ use Rattle.text.specs.Cells.{pieces}
 use Rattle.text.specs.Spaces.{trim}
 use Rattle.text.specs.Lines.{illFormed, returnAt, controlAt}
 use Rattle.text.specs.Judge.{kindOf, judge}
 use Rattle.exchange.specs.Faults.{Fault, clean, breaks, _then_, unless, kindFault, member, hasAll}
 use Rattle.exchange.specs.LineRules.{foundFault, tooLong, lineRules}
 use Rattle.exchange.specs.Headers.{Header, rawName, nameOf, valueOf, headerOf, namesIn, nameRule, headersSaid, headerKind, firstHeaderRules, headerRules, stationNames}
 use Rattle.exchange.specs.Columns.{Sort, bottle, ctd, nameFaults, flagFaults, requiredNames, namesOf, namesRules, kindsOf}
 use Rattle.exchange.specs.Rows.{cellFaults, rowFault, rowRules, isEndData}
 use Rattle.exchange.specs.Grid.{starts}
 use Rattle.exchange.specs.Places.{Place, first, comments, headers, names, units, rows, after, stopped, stopAt, isMark, isBottle, isCtd, isComment, firstRules, afterHeader, firstStep, firstHeaderStep, headersStep, namesStep, unitsStep, afterComments, commentsStep, endData, rowsStep, step}
-use Rattle.exchange.specs.RuleOrder.{lineList, columnAt, cellByCell, nameList, flagList, namesList, cellList, rowList, lastHeader, firstHeaderList, headerList, topList, rulesAt, dueHeaders, afterTop, nextPlace}
-use Rattle.exchange.specs.Promises.{Kept, Broken}
+use Rattle.laws.specs.RuleOrder.{lineList, columnAt, cellByCell, nameList, flagList, namesList, cellList, rowList, lastHeader, firstHeaderList, headerList, topList, rulesAt, dueHeaders, afterTop, nextPlace}
+use Rattle.laws.specs.Promises.{Kept, Broken}
 
 -- ---- the first broken rule of a list
 unfoldable pub firstOf : List Fault → Fault

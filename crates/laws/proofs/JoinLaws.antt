@@ -16,7 +16,8 @@ use lib.ListN.{length, getD, set, length-append}
 use lib.Seq.{lt-length-set, getD-set-same}
 use borrow.Author.Tests.{eqb-true, eq-eqb}
 use Rattle.text.specs.Cells.{firstPiece, laterPieces, pieces}
-use Rattle.exchange.specs.Grid.{joinLater, join, starts}
+use Rattle.exchange.specs.Grid.{starts}
+use Rattle.laws.specs.Writes.{joinLater, join}
 
 -- every byte is other than c
 abbrev pub Free : ℕ → List ℕ → Type 0

@@ -10,17 +10,17 @@ use native.Mathlib.Omega.{arith}
 use lib.ListN.{set}
 use lib.Dec.{eqb, ltb}
 use Rattle.text.specs.Cells.{firstPiece, laterPieces, pieces}
 use Rattle.exchange.specs.Faults.{Fault, clean, _then_, unless}
 use Rattle.exchange.specs.LineRules.{lineRules, unended}
 use Rattle.exchange.specs.Columns.{kindsOf}
 use Rattle.exchange.specs.Rows.{rowRules, isEndData}
-use Rattle.exchange.specs.Grid.{join}
+use Rattle.laws.specs.Writes.{join}
 use Rattle.exchange.specs.Places.{Table, Place, first, rows, after, stopped, stopAt, endData, rowsStep, step, accepted, run, outcomeOf}
 use Rattle.exchange.proofs.RunLaws.{run-stopped}
 use Rattle.exchange.proofs.HeaderLaws.{then-clean}
 use Rattle.exchange.proofs.AcceptLaws.{accepted-not-refused, fault-refused, stops-refused, after-accepted, rows-accepted, Early, Next, early, table, next-step, early-ends, early-cut, rows-reached}
-use Rattle.exchange.proofs.JoinLaws.{Free, first-free, later-free, pieces-join}
-use Rattle.exchange.proofs.UngridLaws.{all-set}
+use Rattle.laws.proofs.JoinLaws.{Free, first-free, later-free, pieces-join}
+use Rattle.laws.proofs.UngridLaws.{all-set}
 
 pub lines-replaced : (f x : List ℕ) (k : ℕ) → Free 10 x → pieces 10 (join 10 (set (pieces 10 f) k x)) ≡ set (pieces 10 f) k x
 lines-replaced f x zero h = pieces-join 10 x (laterPieces 10 f) h (later-free 10 f)

@@ -18,13 +18,13 @@ use Rattle.text.specs.Rows.{isMissingNumber, missingIn}
 use Rattle.text.proofs.DecimalLaws.{Small}
 use Rattle.text.proofs.JudgeLaws.{largest, judge-small}
 use Rattle.text.proofs.ReadingLaws.{decimal-below, reading-missing}
 use Rattle.exchange.specs.Columns.{kindOfName, kindsOf}
 use Rattle.exchange.specs.Places.{Table, Outcome, accepted, refused, outcomeOf}
 use Rattle.exchange.specs.Profiles.{missingInRow, missingInRows}
 use Rattle.exchange.specs.Answers.{checkedBy, checkedOf, kindAt, rowsIn, rowCells, cellText, missingOf, readingBy, readingFor}
 use Rattle.exchange.specs.Located.{isMeasured}
-use Rattle.exchange.specs.Promises.{IsThere, columnKind, cellVerdict, millionthsOf, MissingExactly, PresentThere, isMissingReading, measuredBy, sumFrom, missingPairs, MissingCounted}
-use Rattle.exchange.proofs.AskedLaws.{Good, rows-many, row-in, row-many, cell-good, asked-there, reading-there}
+use Rattle.laws.specs.Promises.{IsThere, columnKind, cellVerdict, millionthsOf, MissingExactly, PresentThere, isMissingReading, measuredBy, sumFrom, missingPairs, MissingCounted}
+use Rattle.laws.proofs.AskedLaws.{Good, rows-many, row-in, row-many, cell-good, asked-there, reading-there}
 
 -- ---- a decimal is missing exactly when it equals -999
 reads-missing : (k : ℕ) (v : Verdict) → Good v → isDecimal (kindOf k) ≡ true → (readingOf k (judgedOf 0 v) ≡ Missing) ↔ (millionthsOf v ≡ negℤ (pos 999000000))

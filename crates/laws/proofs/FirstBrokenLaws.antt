@@ -9,18 +9,18 @@ use lib.ListN.{length, getD, take}
 use lib.Dec.{leb, ltb}
 use borrow.Author.Tests.{lt-ltb, le-ltb, ltb-true, ltb-false}
 use Rattle.text.specs.Cells.{pieces}
 use Rattle.exchange.specs.Faults.{Fault, clean, breaks, _then_, unless}
 use Rattle.exchange.specs.LineRules.{unended}
 use Rattle.exchange.specs.Headers.{Header, headerOf, headersSaid}
 use Rattle.exchange.specs.Columns.{Sort, bottle, ctd}
 use Rattle.exchange.specs.Rows.{isEndData}
 use Rattle.exchange.specs.Places.{Table, Place, first, comments, headers, names, units, rows, after, stopped, stopAt, isComment, Outcome, accepted, refused, ending, faultOutcome, cut, run, outcomeOf}
 use Rattle.exchange.specs.Answers.{checkedBy, checkedOf}
-use Rattle.exchange.specs.RuleOrder.{rulesAt, endRules, dueHeaders, afterTop, nextPlace, walk, linesIn, placeBefore, rulesOf}
-use Rattle.exchange.specs.Promises.{Kept, Broken, FirstBroken, AllKept, ChecksFirst}
+use Rattle.laws.specs.RuleOrder.{rulesAt, endRules, dueHeaders, afterTop, nextPlace, walk, linesIn, placeBefore, rulesOf}
+use Rattle.laws.specs.Promises.{Kept, Broken, FirstBroken, AllKept, ChecksFirst}
 use Rattle.exchange.proofs.RunLaws.{run-stopped}
-use Rattle.exchange.proofs.RuleOrderLaws.{firstOf, first-kept, kept-first, first-broken, broken-first, step-is}
-use Rattle.exchange.proofs.RuleNumberLaws.{Numbered, number-range, number-of}
+use Rattle.laws.proofs.RuleOrderLaws.{firstOf, first-kept, kept-first, first-broken, broken-first, step-is}
+use Rattle.laws.proofs.RuleNumberLaws.{Numbered, number-range, number-of}
 
 -- ---- places that are no refusal
 abbrev Going : Place → Type 0

@@ -25,21 +25,21 @@ use Rattle.text.specs.Rows.{isGood}
 use Rattle.text.proofs.EqualLaws.{equal-same}
 use Rattle.text.proofs.EveryLaws.{every-cons}
 use Rattle.text.proofs.LineLaws.{isPlain}
 use Rattle.exchange.specs.Faults.{clean, breaks, _then_, unless, kindFault}
 use Rattle.exchange.specs.LineRules.{lineRules}
 use Rattle.exchange.specs.Columns.{kindsOf}
 use Rattle.exchange.specs.Rows.{cellFaults, rowRules, isEndData}
-use Rattle.exchange.specs.Grid.{join, ungrid, Write, written}
+use Rattle.laws.specs.Writes.{join, ungrid, Write, written}
 use Rattle.exchange.specs.Profiles.{grid}
 use Rattle.exchange.specs.Places.{Table, accepted, outcomeOf}
 use Rattle.exchange.proofs.HeaderLaws.{then-clean}
 use Rattle.exchange.proofs.RowLaws.{fault-good}
 use Rattle.exchange.proofs.GridLaws.{getD-mapped, cells-many}
 use Rattle.exchange.proofs.AcceptLaws.{rows-kept}
-use Rattle.exchange.proofs.JoinLaws.{Free, All, join-pieces, pieces-free}
-use Rattle.exchange.proofs.UngridLaws.{all-at, CleanRow, clean-row, clean-grid, row-free, cells-row, clean-row-set, clean-set, ungrid-set, grid-ungrid}
-use Rattle.exchange.proofs.RowKeepLaws.{row-replaced}
-use Rattle.exchange.proofs.LineKeepLaws.{line-kept}
+use Rattle.laws.proofs.JoinLaws.{Free, All, join-pieces, pieces-free}
+use Rattle.laws.proofs.UngridLaws.{all-at, CleanRow, clean-row, clean-grid, row-free, cells-row, clean-row-set, clean-set, ungrid-set, grid-ungrid}
+use Rattle.laws.proofs.RowKeepLaws.{row-replaced}
+use Rattle.laws.proofs.LineKeepLaws.{line-kept}
 
 -- ---- rules 15, then 17, 16, 18 of a row
 fault-moved : (v : Verdict) (c d : ℕ) → kindFault v c ≡ clean → kindFault v d ≡ clean

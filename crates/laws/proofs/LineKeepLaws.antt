@@ -15,11 +15,11 @@ use Rattle.text.specs.Bytes.{every}
 use Rattle.text.specs.Lines.{Range, within, takes, alternatives, characterIn, character, illFrom, illFormed, firstFrom, isReturn, returnAt, isControl, controlAt}
 use Rattle.text.proofs.CharacterLaws.{character-ascii}
 use Rattle.text.proofs.LineLaws.{isPlain, plain-well-formed, plain-no-return, plain-no-control}
 use Rattle.exchange.specs.Faults.{clean, _then_}
 use Rattle.exchange.specs.LineRules.{foundFault, tooLong, lineRules}
-use Rattle.exchange.specs.Grid.{join, joinLater}
+use Rattle.laws.specs.Writes.{join, joinLater}
 use Rattle.exchange.proofs.HeaderLaws.{then-clean}
-use Rattle.exchange.proofs.JoinLaws.{join-length-set}
+use Rattle.laws.proofs.JoinLaws.{join-length-set}
 
 abbrev pub nowhere : Found → Bool
 nowhere (At i) = false

@@ -14,9 +14,9 @@ use native.Mathlib.Nat.{le-of-suc-le-suc, not-suc-le-zero}
 use lib.Dec.{eqb}
 use lib.ListN.{length, getD, set}
 use Rattle.text.specs.Cells.{firstPiece, laterPieces, pieces}
-use Rattle.exchange.specs.Grid.{joinLater, join, ungrid}
+use Rattle.laws.specs.Writes.{joinLater, join, ungrid}
 use Rattle.exchange.specs.Profiles.{grid}
-use Rattle.exchange.proofs.JoinLaws.{Free, All, join-pieces, pieces-free, pieces-join}
+use Rattle.laws.proofs.JoinLaws.{Free, All, join-pieces, pieces-free, pieces-join}
 
 -- ---- All
 module _ {A : Type 0} (P : A → Type 0) where
