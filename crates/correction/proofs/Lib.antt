@@ -13,3 +13,6 @@ pub mod RecordLaws
 pub mod ExactLaws
 pub mod ListLaws
 pub mod Demand3Laws
+pub mod OneLineLaws
+pub mod FieldLaws
+pub mod ListLineLaws

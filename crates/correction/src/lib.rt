@@ -1,5 +1,10 @@
 // Corrections to an exchange file: one correction made in the lent file, and one line of a correction list.
+ghost use mathlib.Core.Path.{_≡_};
+ghost use Rattle.text.specs.Spaces.{IsPart};
+ghost use Rattle.correction.specs.ListLines.{lineRead};
 use text::Span;
+
+mod lines;
 
 // A correction's answer.
 pub enum Answer {
@@ -15,4 +20,24 @@ pub struct ListLine {
     pub millionths: i64,
     pub decimals: u64,
     pub flag: u64,
+}
+
+// Reads one line of a correction list, with its line feed.
+pub fn read_line(line: &[u8]) -> ListLine
+    ensures { λ r. ⌜ r ≡ lineRead (now (line .entry)) ⌝ }
+{
+    if !lines::is_one_line(line) {
+        return lines::malformed();
+    }
+    lines::fields_of(line)
+}
+
+// The column name of a list line as a part of the line itself; the empty part at its start where the line is malformed.
+pub fn name_in_line(line: &[u8]) -> &[u8]
+    ensures { λ r. ⌜ IsPart (line .entry) r (lineRead (now (line .entry)) .name) ⌝ }
+{
+    let l = read_line(line);
+    let start = l.name.start;
+    let n = l.name.len;
+    &line[start..start + n]
 }

@@ -191,7 +191,7 @@ reading-anywhere k n wrong = refl
 reading-anywhere k n outOfRange = refl
 reading-anywhere k n (good m v d) = refl
 
-size-anywhere : (n : ℕ) (v : Verdict) → judgedOf n v .size ≡ sizeOf v
+pub size-anywhere : (n : ℕ) (v : Verdict) → judgedOf n v .size ≡ sizeOf v
 size-anywhere n blank = refl
 size-anywhere n wrong = refl
 size-anywhere n outOfRange = refl

@@ -105,15 +105,15 @@ piece-take c (x ∷ xs) = go (eqb x c) (piece-take c xs)
 piece-short : (c : ℕ) (xs : List ℕ) → length (firstPiece c xs) ≤ length xs
 piece-short c xs = omega (arith, simp length-take at (ap length (piece-take c xs)))
 
-pub cell-slice : (s : List ℕ) (i : ℕ) → slice i (next 44 s i) s ≡ cellAt 44 s i
+pub cell-slice : (c : ℕ) (s : List ℕ) (i : ℕ) → slice i (next c s i) s ≡ cellAt c s i
 unfolding next
-cell-slice s i =
-    let q : (i + length (cellAt 44 s i)) - i ≡ length (cellAt 44 s i) = omega arith in
-    slice-take i (i + length (cellAt 44 s i)) s
+cell-slice c s i =
+    let q : (i + length (cellAt c s i)) - i ≡ length (cellAt c s i) = omega arith in
+    slice-take i (i + length (cellAt c s i)) s
     ∙ ap (λ (k : ℕ). take k (drop i s)) q
-    ∙ sym (piece-take 44 (lineAt s i)
-    ∙ ap (take (length (cellAt 44 s i))) (piece-take 10 (drop i s))
-    ∙ take-take (length (cellAt 44 s i)) (length (lineAt s i)) (drop i s) (piece-short 44 (lineAt s i)))
+    ∙ sym (piece-take c (lineAt s i)
+    ∙ ap (take (length (cellAt c s i))) (piece-take 10 (drop i s))
+    ∙ take-take (length (cellAt c s i)) (length (lineAt s i)) (drop i s) (piece-short c (lineAt s i)))
 
 -- ---- one more cell
 abbrev pub cellsOf : List ℕ → ℕ → List (List ℕ)
@@ -163,7 +163,7 @@ module _ (s : List ℕ) (at e i n : ℕ) (starts ends : List ℕ) (w : Walked s 
     unfolding trim lead back
     name-here =
         span-bytes s i q cell-from (omega (arith, cell-within, w .ends-at .room))
-        ∙ ap trim (ap (λ (k : ℕ). slice i k s) eq ∙ cell-slice s i ∙ sym (rest-first ts n (cellAt 44 s i) (laterPieces 44 (lineAt s i)) (w .left) []))
+        ∙ ap trim (ap (λ (k : ℕ). slice i k s) eq ∙ cell-slice 44 s i ∙ sym (rest-first ts n (cellAt 44 s i) (laterPieces 44 (lineAt s i)) (w .left) []))
         ∙ sym (List·getD-map trim ts n [])
 
     set-below : (l : List ℕ) (v : ℕ) (P : ℕ → ℕ → Type 0) → n < length l → ((k : ℕ) → k < n → P k (getD l k 0)) → P n v → (k : ℕ) → k < n + 1 → P k (getD (set l n v) k 0)

@@ -26,12 +26,12 @@ use Rattle.exchange.proofs.PlaceLaws.{span-first, span-more}
 use Rattle.exchange.proofs.AcceptLaws.{RowKept, rows-kept}
 
 -- how many bytes pieces of the given lengths make, one byte between each two
-total : List ℕ → ℕ
+unfoldable pub total : List ℕ → ℕ
 total [] = 0
 total (w ∷ []) = w
 total (w ∷ (v ∷ ws)) = w + 1 + total (v ∷ ws)
 
-total-pieces : (c : ℕ) (xs : List ℕ) → total (map length (pieces c xs)) ≡ length xs
+pub total-pieces : (c : ℕ) (xs : List ℕ) → total (map length (pieces c xs)) ≡ length xs
 unfolding total firstPiece laterPieces
 total-pieces c [] = refl
 total-pieces c (x ∷ xs) = go (eqb x c) (laterPieces c xs) (total-pieces c xs)
