@@ -15,5 +15,6 @@ pub mod NameWords
 pub mod HeadersWords
 pub mod ColumnWords
 pub mod RowsWords
+pub mod ProfileWords
 pub mod SurveyWords
 pub mod AskWords

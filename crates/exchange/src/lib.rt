@@ -11,6 +11,7 @@ mod headers;
 mod lines;
 mod names;
 mod places;
+mod profiles;
 mod rows;
 mod survey;
 mod top;
