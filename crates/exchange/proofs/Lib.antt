@@ -13,5 +13,6 @@ pub mod AnswerLaws
 pub mod SurveyLaws
 pub mod PlaceLaws
 pub mod GridLaws
+pub mod HeaderLineLaws
 pub mod AskLaws
 pub mod ProfileLaws

@@ -2,7 +2,7 @@
 use mathlib.Core.Path.{sym, _∙_}
 use native.Mathlib.Omega.{arith}
 use borrow.Author.Needs.{needs}
-use Rattle.exchange.proofs.SurveyLaws.{line-ends, starts-on, kinds-room, names-none, names-broken, names-refused, names-on, table-refused, table-told}
+use Rattle.exchange.proofs.SurveyLaws.{line-ends, starts-on, kinds-room, names-none, names-broken, names-refused, names-on, names-fed, table-refused, table-told}
 use Rattle.exchange.proofs.survey.table.Statement.{statement}
 use Rattle.exchange.proofs.survey.table.Tie as tie
 
@@ -71,6 +71,7 @@ returns-4 c =
         on = λ hs y. names-on _ hs _ _ _ _ (a .line-at .ensures) z _ x f ∙ w .0 .on _ hs _ (x .many f) (sym (x .kinds f)) y;
         table = λ hs y h g. table-told _ hs _ _ _ _ _ _ _ x f (w .1 y) (w .0 .starts y (omega arith) (starts-on _ _ _ _ (a .line-at .ensures) z _ h g));
         at = λ y. w .1 y .same-names;
+        fed = λ y. names-fed _ _ _ _ (a .line-at .ensures) z (w .1 y .same-names);
       },
       λ y. (w .1 y .same-kind, w .1 y .same-headers),
     )
