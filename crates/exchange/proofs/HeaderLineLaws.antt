@@ -1,14 +1,14 @@
 -- Where the headers of a CTD file stand: line after line, from their first to the names line.
-use Prim.Native.Nat.{ℕ, zero, suc, _+_, _-_, _≤_, _<_}
-use mathlib.Core.Path.{_≡_, refl, sym, ap, subst, _∙_}
+use Prim.Native.Nat.{ℕ, suc, _+_, _-_, _≤_, _<_}
+use mathlib.Core.Path.{_≡_, sym, ap, subst, _∙_}
 use mathlib.Core.List.{List, [], _∷_, _++_}
 use native.Mathlib.Nat.{add-zero}
 use native.Mathlib.Omega.{arith}
-use lib.ListN.{length, getD, drop, set, length-append, length-drop}
+use lib.ListN.{length, getD, set, length-append, length-drop}
 use lib.Seq.{getD-drop}
 use Rattle.text.specs.Cells.{pieces, lineAt}
 use Rattle.exchange.specs.Headers.{Header, headerOf}
-use Rattle.exchange.specs.Walks.{linesFrom, StartsAt, headersAt}
+use Rattle.exchange.specs.Walks.{StartsAt, headersAt}
 use Rattle.exchange.specs.HeadersWords.{Parted, LineStands, HeaderLines, none, more}
 use Rattle.exchange.proofs.HeaderLaws.{headers-more}
 use Rattle.exchange.proofs.GridLaws.{place-of-line}

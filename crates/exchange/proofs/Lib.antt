@@ -16,3 +16,5 @@ pub mod GridLaws
 pub mod HeaderLineLaws
 pub mod AskLaws
 pub mod ProfileLaws
+pub mod ValueLaws
+pub mod RecordLaws

@@ -5,7 +5,7 @@ use mathlib.Core.List.{List, [], _∷_, _++_, map, append-assoc, append-nil}
 use mathlib.Core.Bool.{Bool, true, false, cond, not, _&&_, true≢false}
 use native.Mathlib.Nat.{add-zero}
 use native.Mathlib.Omega.{arith}
-use lib.ListN.{length, getD, take, length-append}
+use lib.ListN.{length, take, length-append}
 use lib.Dec.{eqb, ltb}
 use borrow.Author.Tests.{eq-eqb, ne-eqb, eqb-false, lt-ltb, ltb-false}
 use Rattle.text.specs.declared.Keys.{Keys}
@@ -55,6 +55,13 @@ rows-more : (s : List ℕ) (i n : ℕ) → 0 < n → i + length (lineAt s i) < l
 rows-more s i n h f =
     let e : n ≡ suc (n - 1) = omega arith in
     ap (λ (m : ℕ). rowsFrom s i m) e ∙ ap (λ (ps : List (List ℕ)). take (suc (n - 1)) (map (pieces 44) ps)) (lines-more s i f)
+
+-- there are so many
+pub rows-many : {s ks : List ℕ} {i n : ℕ} → RowLines s ks i n → length (rowsFrom s i n) ≡ n
+rows-many none = refl
+rows-many {s} {ks} {i} (more {n = m} a b c) =
+    let d : suc m - 1 ≡ m = omega arith in
+    ap length (rows-more s i (suc m) (omega arith) (a .room)) ∙ ap (λ (n : ℕ). suc (length (rowsFrom s (i + length (lineAt s i) + 1) n))) d ∙ ap suc (rows-many c)
 
 -- a row that keeps its rules is read with its key
 pub row-key : (s ks : List ℕ) (i : ℕ) (r : Row) → RowRead s ks i r → rowRules ks (cellsOf s i) ≡ clean → keyAt s (r .keys) ≡ keyOf ks (cellsOf s i)

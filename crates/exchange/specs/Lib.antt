@@ -16,5 +16,6 @@ pub mod HeadersWords
 pub mod ColumnWords
 pub mod RowsWords
 pub mod ProfileWords
+pub mod ValueWords
 pub mod SurveyWords
 pub mod AskWords

@@ -36,7 +36,7 @@ pub struct Header {
 }
 
 // The first = from at on; e where there is none before it.
-fn equals_from(s: &[u8], at: usize, e: usize) -> usize
+pub fn equals_from(s: &[u8], at: usize, e: usize) -> usize
     requires { ⌜ (e ≡ at + length (lineAt (now s) at)) × (e ≤ length (now s)) ⌝ }
     ensures { λ r. ⌜ r ≡ at + length (rawName (lineAt (now (s .entry)) at)) ⌝ }
 {

@@ -7,7 +7,7 @@ use borrow.Author.Needs.{needs}
 use Rattle.exchange.specs.Columns.{ctd}
 use Rattle.exchange.specs.Places.{comments, run}
 use Rattle.exchange.specs.Walks.{linesFrom, StartsAt, headersAt}
-use Rattle.exchange.specs.HeadersWords.{HeaderLines, none}
+use Rattle.exchange.specs.HeadersWords.{HeaderLines}
 use Rattle.exchange.proofs.HeaderRunLaws.{left, first-ended, first-refused, first-none, first-on, left-ended, left-refused, left-on, left-named, left-lacking, header-counted, headers-refused}
 use Rattle.exchange.proofs.HeaderLineLaws.{headers-none, headers-start, headers-count, headers-placed}
 use Rattle.exchange.proofs.headers.read_headers.Statement.{statement}
