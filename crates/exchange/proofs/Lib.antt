@@ -13,5 +13,9 @@ pub mod AnswerLaws
 pub mod SurveyLaws
 pub mod PlaceLaws
 pub mod GridLaws
+pub mod HeaderLineLaws
 pub mod AskLaws
 pub mod LocateLaws
+pub mod ProfileLaws
+pub mod ValueLaws
+pub mod RecordLaws

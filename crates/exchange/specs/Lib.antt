@@ -15,5 +15,7 @@ pub mod NameWords
 pub mod HeadersWords
 pub mod ColumnWords
 pub mod RowsWords
+pub mod ProfileWords
+pub mod ValueWords
 pub mod SurveyWords
 pub mod AskWords
