@@ -65,17 +65,17 @@ by-kind-spec =
     decimal-requires
     top-requires
     ranged-requires
-    returns
     flag-requires
-    returns-2
     key-requires
-    returns-3
     whole-number-requires
     ranged-requires-2
-    returns-4
     date-requires
-    returns-5
     time-requires
-    returns-6
     free-requires
+    returns
+    returns-2
+    returns-3
+    returns-4
+    returns-5
+    returns-6
     returns-7)

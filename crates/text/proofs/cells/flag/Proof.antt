@@ -91,14 +91,14 @@ flag-spec =
     spaces-requires
     shared-slice-read-b
     blank-cell-requires
-    returns
     wrong-cell-requires
-    returns-2
     add-close
     sub-close
     cast-close
     close-requires
-    returns-3
     out-of-range-requires
+    returns
+    returns-2
+    returns-3
     returns-4
     returns-5)

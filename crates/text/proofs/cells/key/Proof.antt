@@ -40,7 +40,7 @@ key-spec =
     spaces-requires
     shared-slice-read-b
     blank-cell-requires
-    returns
     word-end-requires
     close-requires
+    returns
     returns-2)

@@ -67,15 +67,15 @@ nines-spec =
     (tie.spec
     shared-slice-read-if1
     wrong-cell-requires
-    returns
     add-if2
     shared-slice-read-if2
     wrong-cell-requires-2
-    returns-2
     add-if3
     shared-slice-read-if3
     wrong-cell-requires-3
-    returns-3
     add-close
     close-requires
+    returns
+    returns-2
+    returns-3
     returns-4)

@@ -55,9 +55,9 @@ time-spec =
     spaces-requires
     shared-slice-read-b
     blank-cell-requires
-    returns
     add-nines
     nines-requires
-    returns-2
     clock-requires
+    returns
+    returns-2
     returns-3)

@@ -42,7 +42,7 @@ decimal-spec =
     spaces-requires
     shared-slice-read-b
     blank-cell-requires
-    returns
     after-sign-requires
     unsigned-requires
+    returns
     returns-2)

@@ -65,12 +65,12 @@ character-of-spec =
     tie.close
     (tie.spec
     in-range-requires
-    returns
     in-range-requires-2
     in-range-requires-3
-    returns-2
     is-three-requires
-    returns-3
     is-four-requires
+    returns
+    returns-2
+    returns-3
     returns-4
     returns-5)
