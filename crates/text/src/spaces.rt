@@ -19,7 +19,7 @@ fn end_of(s: &[u8], a: usize, e: usize) -> usize
         }
         j = k;
     }
-    j
+    j // nothing but spaces
 }
 
 // Where the bytes from a to e start without the spaces at their front.
