@@ -50,7 +50,7 @@ pub fn character_of(a: u8, b: u8, c: u8, d: u8) -> usize
     }
 }
 
-// The byte at i, and 0, which goes on no character, past the end.
+// The byte at i, and 0 past the end: no byte that goes on a character, and what pads a name.
 pub fn byte_at(s: &[u8], i: usize) -> u8
     ensures { λ r. ⌜ r ≡ getD (now (s .entry)) i 0 ⌝ }
 {
