@@ -1,7 +1,7 @@
 use borrow.Author.Needs.{needs}
 use Rattle.text.proofs.SpaceLaws.{span-before, span-past, span-within}
-use Rattle.text.proofs.spaces.span_of.Statement.{statement}
-use Rattle.text.proofs.spaces.span_of.Tie as tie
+use Rattle.text.proofs.trim_span.Statement.{statement}
+use Rattle.text.proofs.trim_span.Tie as tie
 
 returns : tie.Need-returns
 returns c = span-before _ _ _ (c .if1 .taken)
@@ -25,6 +25,6 @@ returns-3 c =
     let d = c .before .before in
     span-within _ _ _ (d .before .if1 .left) (d .if2 .left) _ _ (z .2) (b .0) (b .1) (z .3) (b .2)
 
-pub span-of-spec : {M : Type 1} → statement M
-span-of-spec =
+pub trim-span-spec : {M : Type 1} → statement M
+trim-span-spec =
     tie.close (tie.spec returns returns-2 end-of-requires start-of-requires sub-t7 returns-3)
