@@ -14,7 +14,7 @@ use Rattle.exchange.specs.Columns.{isFlag, parameterOf, Column, columnOf, colum
 use Rattle.exchange.specs.Places.{Table}
 use Rattle.exchange.specs.Answers.{kindAt}
 use Rattle.exchange.specs.Located.{nameAt, flagColumn, hasFlag}
-use Rattle.exchange.proofs.JoinLaws.{All}
+use Rattle.laws.proofs.JoinLaws.{All}
 use Rattle.correction.proofs.UniqueLaws.{Unique}
 use Rattle.correction.proofs.PlanLaws.{cellColumns}
 

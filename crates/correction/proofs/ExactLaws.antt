@@ -9,8 +9,8 @@ use Rattle.text.specs.declared.Span.{Span}
 use Rattle.exchange.specs.Places.{Table, Outcome, accepted, refused, outcomeOf}
 use Rattle.exchange.specs.Profiles.{grid}
 use Rattle.exchange.specs.Located.{flagColumn, hasFlag, cellsOf}
-use Rattle.exchange.proofs.JoinLaws.{All}
-use Rattle.exchange.proofs.UngridLaws.{ungrid-grid}
+use Rattle.laws.proofs.JoinLaws.{All}
+use Rattle.laws.proofs.UngridLaws.{ungrid-grid}
 use Rattle.correction.specs.declared.Answer.{Answer}
 use Rattle.correction.specs.declared.Answer.the-variants.{Applied, Refused}
 use Rattle.correction.specs.Texts.{atRight}

@@ -24,8 +24,8 @@ use Rattle.exchange.specs.Answers.{kindAt}
 use Rattle.exchange.specs.Located.{nameAt, flagColumn, hasFlag}
 use Rattle.exchange.proofs.HeaderLaws.{then-clean, breaks-clean}
 use Rattle.exchange.proofs.GridLaws.{cells-many}
-use Rattle.exchange.proofs.JoinLaws.{Free, All}
-use Rattle.exchange.proofs.WriteLaws.{RowHolds, row-holds, Fits}
+use Rattle.laws.proofs.JoinLaws.{Free, All}
+use Rattle.laws.proofs.WriteLaws.{RowHolds, row-holds, Fits}
 use Rattle.correction.specs.Texts.{size, numberText, flagText, atRight}
 use Rattle.correction.specs.Corrections.{Order, badNumber, inSet, badFlag, textsOf}
 use Rattle.correction.proofs.DigitLaws.{every-from}

@@ -6,9 +6,10 @@ use mathlib.Core.List.{List, [], _∷_, _++_, map, append-assoc}
 use native.Mathlib.Omega.{arith}
 use lib.ListN.{length, getD, set, take, drop, length-append, length-map, List·getD-map}
 use lib.Seq.{getD-set-same, getD-set-other, set-set, set-comm, map-set-same, take-at, drop-at}
-use Rattle.exchange.specs.Grid.{joinLater, join, ungrid, starts}
-use Rattle.exchange.proofs.JoinLaws.{All, bytesBefore, bytesAfter, length-before, join-at, join-set}
-use Rattle.exchange.proofs.UngridLaws.{CleanCell, CleanRow, Clean, clean-row-set}
+use Rattle.exchange.specs.Grid.{starts}
+use Rattle.laws.specs.Writes.{joinLater, join, ungrid}
+use Rattle.laws.proofs.JoinLaws.{All, bytesBefore, bytesAfter, length-before, join-at, join-set}
+use Rattle.laws.proofs.UngridLaws.{CleanCell, CleanRow, Clean, clean-row-set}
 use Rattle.correction.specs.Corrections.{patch}
 
 abbrev pub Grid : Type 0

@@ -7,14 +7,14 @@ use lib.ListN.{length, getD, length-map, length-drop}
 use Rattle.text.specs.Cells.{pieces}
 use Rattle.exchange.specs.Columns.{kindOfName, kindsOf}
 use Rattle.exchange.specs.Places.{Table, Outcome, accepted, refused, outcomeOf}
-use Rattle.exchange.specs.Grid.{ungrid}
+use Rattle.laws.specs.Writes.{ungrid}
 use Rattle.exchange.specs.Profiles.{grid}
 use Rattle.exchange.specs.Located.{cellsBy, cellsOf}
 use Rattle.exchange.proofs.AcceptLaws.{rows-kept}
 use Rattle.exchange.proofs.GridLaws.{cells-many}
-use Rattle.exchange.proofs.JoinLaws.{All}
-use Rattle.exchange.proofs.UngridLaws.{clean-grid, ungrid-grid, grid-ungrid}
-use Rattle.exchange.proofs.WriteLaws.{row-holds, Fits, file-written}
+use Rattle.laws.proofs.JoinLaws.{All}
+use Rattle.laws.proofs.UngridLaws.{clean-grid, ungrid-grid, grid-ungrid}
+use Rattle.laws.proofs.WriteLaws.{row-holds, Fits, file-written}
 use Rattle.text.specs.declared.Span.{Span}
 use Rattle.correction.specs.declared.Answer.{Answer}
 use Rattle.correction.specs.declared.Answer.the-variants.{Applied, Refused}

@@ -14,6 +14,7 @@ use Rattle.exchange.specs.Located.{cellsOf}
 use Rattle.correction.specs.declared.Answer.{Answer}
 use Rattle.correction.specs.declared.Answer.the-variants.{Applied, Refused}
 use Rattle.correction.specs.Corrections.{Order, answerOf, correctedOf}
+use Rattle.laws.proofs.MissingLaws.{missing-counted}
 use Rattle.correction.specs.Demand3.{Measurement, measurementOf, correctedAll, answersTo, EachExactly, names, ifApplied, orElse, lastTo, ReadsAs, InNone, Kept, AfterList}
 use Rattle.correction.proofs.KeepsLaws.{places-kept}
 use Rattle.correction.proofs.ReadLaws.{Set, set-reads, set-now, set-on}
@@ -27,7 +28,7 @@ each-exactly (o ∷ os) f = (refl, exactly f o, each-exactly os (correctedOf f o
 
 -- ---- the file stays what it is
 kept-none : (f : List ℕ) → Kept f f
-kept-none f = record { outcome = refl; kind = refl; columns = refl; rows = refl; profiles = refl; records = λ k. refl; long = refl }
+kept-none f = record { outcome = refl; kind = refl; columns = refl; rows = refl; profiles = refl; missing = missing-counted f; records = λ k. refl; long = refl }
 
 kept-more : {f g h : List ℕ} → Kept f g → Kept g h → Kept f h
 kept-more a b = record {
@@ -36,6 +37,7 @@ kept-more a b = record {
   columns = b .columns ∙ a .columns;
   rows = b .rows ∙ a .rows;
   profiles = b .profiles ∙ a .profiles;
+  missing = b .missing;
   records = λ k. b .records k ∙ a .records k;
   long = b .long ∙ a .long;
 }

@@ -6,10 +6,10 @@ use mathlib.Core.List.{List, [], _∷_}
 use native.Mathlib.Omega.{arith}
 use lib.ListN.{length}
 use Rattle.exchange.specs.Places.{Outcome, accepted, refused, outcomeOf}
-use Rattle.exchange.specs.Grid.{ungrid}
+use Rattle.laws.specs.Writes.{ungrid}
 use Rattle.exchange.specs.Profiles.{grid}
 use Rattle.exchange.specs.Located.{flagColumn, hasFlag}
-use Rattle.exchange.proofs.JoinLaws.{All}
+use Rattle.laws.proofs.JoinLaws.{All}
 use Rattle.correction.specs.declared.Answer.{Answer}
 use Rattle.correction.specs.declared.Answer.the-variants.{Applied, Refused}
 use Rattle.correction.specs.Texts.{atRight}

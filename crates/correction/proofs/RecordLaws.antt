@@ -23,10 +23,11 @@ use Rattle.exchange.specs.Profiles.{grid, cellOfKind, Key, keyOf, runCount, row
 use Rattle.exchange.specs.Answers.{rowsIn, profilesBy, checkedBy, checkedOf, cellText, cellPlace}
 use Rattle.exchange.specs.Records.{Value, given, absent, headerPlace, headerValue, headersLine, columnValue, valueBy, stationValue, labelsBy, profileRows, numberIn, castTime, recordOf, profileBy, profileOf}
 use Rattle.exchange.proofs.NameLaws.{place-name}
-use Rattle.exchange.proofs.JoinLaws.{All}
+use Rattle.laws.proofs.JoinLaws.{All}
 use Rattle.correction.specs.declared.Answer.{Answer}
 use Rattle.correction.specs.declared.Answer.the-variants.{Applied, Refused}
 use Rattle.correction.specs.Corrections.{Order, textsOf, correctedOf}
+use Rattle.laws.proofs.MissingLaws.{missing-counted}
 use Rattle.correction.specs.Demand3.{Kept}
 use Rattle.correction.proofs.GeometryLaws.{Grid, Shape, shape, cellIn, cell-row}
 use Rattle.correction.proofs.PutLaws.{Put, Misses, cell-puts-other, map-puts}
@@ -194,6 +195,7 @@ kept f o = record {
   columns = ap (λ (p : Outcome). checkedBy (correctedOf f o) p .columns) (keeps f o .end) ∙ columns-same (outcomeOf f);
   rows = ap (λ (p : Outcome). checkedBy (correctedOf f o) p .rows) (keeps f o .end) ∙ rows-same (outcomeOf f);
   profiles = ap (λ (p : Outcome). checkedBy (correctedOf f o) p .profiles) (keeps f o .end) ∙ profiles-same (outcomeOf f) refl;
+  missing = missing-counted (correctedOf f o);
   records = λ k. ap (profileBy (correctedOf f o) k) (keeps f o .end) ∙ records-same k (outcomeOf f) refl;
   long = length-kept f o;
 }

@@ -15,6 +15,7 @@ use Rattle.exchange.specs.Places.{Table, accepted, refused, outcomeOf}
 use Rattle.exchange.specs.Answers.{checkedOf, readingFor, flaggedOf}
 use Rattle.exchange.specs.Located.{isMeasured, flagColumnOf, cellsOf}
 use Rattle.exchange.specs.Records.{profileOf}
+use Rattle.laws.specs.Promises.{missingPairs}
 use Rattle.correction.specs.declared.Answer.{Answer}
 use Rattle.correction.specs.declared.Answer.the-variants.{Applied, Refused}
 use Rattle.correction.specs.Texts.{atRight}
@@ -116,13 +117,15 @@ abbrev pub InNone : List Span → ℕ → Type 0
 InNone [] i = Unit {0}
 InNone (p ∷ ps) i = (Within p i → ⊥) × InNone ps i
 
--- ---- an accepted file is still accepted: of the check's answer all stays but the count of missing readings, and every profile's record stays
+-- ---- an accepted file is still accepted: of the check's answer all stays but the count of missing readings, which is that of the readings then, and every
+-- profile's record stays
 pub record Kept (f g : List ℕ) : Type 0 where
   pub outcome : outcomeOf g ≡ outcomeOf f
   pub kind : checkedOf g .kind ≡ checkedOf f .kind
   pub columns : checkedOf g .columns ≡ checkedOf f .columns
   pub rows : checkedOf g .rows ≡ checkedOf f .rows
   pub profiles : checkedOf g .profiles ≡ checkedOf f .profiles
+  pub missing : checkedOf g .missing ≡ missingPairs g
   pub records : (k : ℕ) → profileOf g k ≡ profileOf f k
   pub long : length g ≡ length f
 

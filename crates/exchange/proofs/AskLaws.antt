@@ -111,6 +111,13 @@ module _ (s : List ℕ) (r c : ℕ) (v : Survey) (w : SurveyRead s v) (x : Cell)
         on = λ y. absurd (omega (arith, e .0, y));
       }
 
+-- ---- row j, from 0
+pub row-found : (s : List ℕ) (v : Survey) (w : SurveyRead s v) (z : v .number ≡ 0) (j : ℕ) → j < v .rows → RowAt s (w .on z .0) j (lineStart s (v .data) j)
+row-found s v w z j h =
+    let t = w .on z in
+    let e : t .0 .line + 1 - 1 ≡ t .0 .line = omega arith in
+    row-at s (t .0) (v .rows) (v .data) j (t .1) (t .2 .inside) (t .2 .starts ∙ ap (λ (k : ℕ). drop k (pieces 10 s)) e) h
+
 -- ---- the cell
 module _ (s : List ℕ) (r c : ℕ) (v : Survey) (w : SurveyRead s v) (z : v .number ≡ 0) (o : outside r (v .rows) c (v .columns) ≡ false) where
   pub ask-data : v .data ≤ length s
@@ -120,10 +127,7 @@ module _ (s : List ℕ) (r c : ℕ) (v : Survey) (w : SurveyRead s v) (z : v .nu
   within = inside-by r (v .rows) c (v .columns) o
 
   pub ask-row : RowAt s (w .on z .0) (r - 1) (lineStart s (v .data) (r - 1))
-  ask-row =
-      let t = w .on z in
-      let e : t .0 .line + 1 - 1 ≡ t .0 .line = omega arith in
-      row-at s (t .0) (v .rows) (v .data) (r - 1) (t .1) (t .2 .inside) (t .2 .starts ∙ ap (λ (k : ℕ). drop k (pieces 10 s)) e) (omega (arith, within .row, within .rows))
+  ask-row = row-found s v w z (r - 1) (omega (arith, within .row, within .rows))
 
   pub ask-span : SpanAt s (lineStart s (v .data) (r - 1)) (lineStart s (v .data) (r - 1) + length (lineAt s (lineStart s (v .data) (r - 1)))) (c - 1)
   ask-span = span-at (c - 1) s _ _ (ask-row .feed) (omega (arith, within .column, within .columns, w .on z .2 .many, ask-row .many))

@@ -110,6 +110,14 @@ cells-many ks ts e = go (eqb (length ts) (length ks)) refl e
     go true q e = eqb-true (length ts) (length ks) q
     go false q e = let z : _≡_ {A = ℕ} 0 1 = cc in absurd (omega arith)
 
+-- a line that another follows has its line feed
+pub line-fed : (s : List ℕ) (i : ℕ) → 1 < length (linesFrom s i) → i + length (lineAt s i) < length s
+line-fed s i h = go (ltb (i + length (lineAt s i)) (length s)) refl
+  where
+    go : (z : Bool) → ltb (i + length (lineAt s i)) (length s) ≡ z → i + length (lineAt s i) < length s
+    go true q = ltb-true (i + length (lineAt s i)) (length s) q
+    go false q = absurd (omega (arith, h, ap length (lines-cut s i (ltb-false (i + length (lineAt s i)) (length s) q))))
+
 -- row r, from 0, starts at i: its line has its line feed, and its cells are the grid's, as many as there are columns
 pub record RowAt (s : List ℕ) (t : Table) (r i : ℕ) : Type 0 where
   pub place : i ≡ starts (map length (pieces 10 s)) (t .line + r)
@@ -124,7 +132,7 @@ row-made : (s : List ℕ) (t : Table) (r i : ℕ) → i ≡ starts (map length (
 row-made s t r i p e h c =
     let x : lineAt s i ≡ getD (pieces 10 s) (t .line + r) [] = ap (λ (ls : List (List ℕ)). getD ls 0 []) e ∙ getD-drop (t .line + r) (pieces 10 s) 0 [] ∙ ap (λ (k : ℕ). getD (pieces 10 s) k []) (add-zero (t .line + r)) in
     let two : 1 < length (linesFrom s i) = subst (λ (ls : List (List ℕ)). 1 < length ls) (sym e) (rw length-drop (omega arith)) in
-    let far : i + length (lineAt s i) < length s = fed (ltb (i + length (lineAt s i)) (length s)) refl two in
+    let far : i + length (lineAt s i) < length s = line-fed s i two in
     let g : rowRules (kindsOf (t .names)) (pieces 44 (lineAt s i)) ≡ clean = subst (λ (y : List ℕ). rowRules (kindsOf (t .names)) (pieces 44 y) ≡ clean) (sym x) c in
     record {
       place = p;
@@ -133,10 +141,6 @@ row-made s t r i p e h c =
       many = cells-many (kindsOf (t .names)) (pieces 44 (lineAt s i)) g ∙ length-map (t .names) kindOfName;
       rules = g;
     }
-  where
-    fed : (z : Bool) → ltb (i + length (lineAt s i)) (length s) ≡ z → 1 < length (linesFrom s i) → i + length (lineAt s i) < length s
-    fed true q w = ltb-true (i + length (lineAt s i)) (length s) q
-    fed false q w = absurd (omega (arith, w, ap length (lines-cut s i (ltb-false (i + length (lineAt s i)) (length s) q))))
 
 -- row r of an accepted file, whose data lines start at d
 pub row-at : (s : List ℕ) (t : Table) (n d r : ℕ) → outcomeOf s ≡ accepted t n → d ≤ length s → linesFrom s d ≡ drop (t .line) (pieces 10 s) → r < n → RowAt s t r (lineStart s d r)

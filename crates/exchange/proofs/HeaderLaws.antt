@@ -79,10 +79,10 @@ module _ {s : List ℕ} {i q e : ℕ} (t : Parted s i q e) where
       sym (piece-drop 10 (drop i s) (n + 1) (omega (arith, t .equals, t .end, t .before))
       ∙ ap (firstPiece 10) (drop-drop (n + 1) i s ∙ ap (λ (m : ℕ). drop m s) k))
 
-  value-cell : cellAt 10 s (q + 1) ≡ valueOf (lineAt s i)
+  pub value-cell : cellAt 10 s (q + 1) ≡ valueOf (lineAt s i)
   value-cell = cell-line s (q + 1) ∙ part-value
 
-  value-stop : Stop 10 s (q + 1) e
+  pub value-stop : Stop 10 s (q + 1) e
   value-stop = record { inside = omega (arith, t .before); room = t .room; feed = rw (t .end) (line-feed s i (omega (arith, t .end, t .room))); parts = refl }
 
   value-whole : wholeAt 2 10 s (q + 1) e ≡ judgedOf (next 10 s (q + 1)) (unlessBlank (wholeOf 2) (trim (valueOf (lineAt s i))))

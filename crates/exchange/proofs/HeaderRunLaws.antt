@@ -18,7 +18,7 @@ use Rattle.exchange.specs.Columns.{ctd}
 use Rattle.exchange.specs.Headers.{Header as FileHeader, headerOf, namesIn, nameRule, headersSaid, firstHeaderRules, headerRules, stationNames}
 use Rattle.exchange.specs.Places.{Place, comments, headers, names, stopped, stopAt, afterHeader, firstHeaderStep, headersStep, commentsStep, isComment, step, cut, ending, faultOutcome, Outcome, refused, run}
 use Rattle.exchange.specs.Walks.{linesFrom, StartsAt, lineFault, lineFor, lineOf, namesAt, headersAt, HeadersRead}
-use Rattle.exchange.specs.HeadersWords.{Parted, namedFault, headerFault, HeaderRead}
+use Rattle.exchange.specs.HeadersWords.{Parted, namedFault, headerFault, HeaderRead, HeadersPlaced}
 use Rattle.exchange.proofs.RunLaws.{run-stopped, run-line, lines-end, line-clean, line-broken-here, starts-next}
 use Rattle.exchange.proofs.HeaderLaws.{breaks-clean, fault-clean, fault-broken, then-clean, then-first, then-second, line-zero, zero-line, headers-names, headers-more}
 
@@ -179,11 +179,13 @@ pub header-counted : (s : List ℕ) (i q e l : ℕ) → Parted s i q e → 1 ≤
 header-counted s i q e l w o y = rw (w .end) (starts-next s l i o y (subst (λ (x : ℕ). x < length s) (w .end) (w .room)))
 
 pub headers-refused : (s : List ℕ) (i l : ℕ) (r : Headers) (k n c : ℕ) → (r .line ≡ k) × (r .number ≡ n) × (r .column ≡ c) → (n ≡ 0 → ⊥)
-    → run l (comments ctd) (linesFrom s i) ≡ refused n k c → HeadersRead s i l r
-headers-refused s i l r k n c e z o =
-    record {
-      stop = λ y. rw (e .0, e .1, e .2) o;
-      on = λ y. absurd (z (sym (e .1) ∙ y));
-      inside = λ y. absurd (z (sym (e .1) ∙ y));
-      counted = λ y. absurd (z (sym (e .1) ∙ y));
-    }
+    → run l (comments ctd) (linesFrom s i) ≡ refused n k c → HeadersRead s i l r × HeadersPlaced s i l r
+headers-refused s i l r k n c e z o = (
+  record {
+    stop = λ y. rw (e .0, e .1, e .2) o;
+    on = λ y. absurd (z (sym (e .1) ∙ y));
+    inside = λ y. absurd (z (sym (e .1) ∙ y));
+    counted = λ y. absurd (z (sym (e .1) ∙ y));
+  },
+  record { lines = λ y. absurd (z (sym (e .1) ∙ y)); many = λ y. absurd (z (sym (e .1) ∙ y)) },
+)

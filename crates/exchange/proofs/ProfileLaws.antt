@@ -1,231 +1,241 @@
--- The profiles of an accepted file part its rows.
+-- The rows of a profile: one walk over the data lines with the profile of each.
 use Prim.Native.Nat.{ℕ, zero, suc, _+_, _-_, _≤_, _<_}
 use mathlib.Core.Path.{_≡_, refl, sym, ap, subst, _∙_}
-use mathlib.Core.List.{List, [], _∷_, map}
-use mathlib.Core.Bool.{Bool, true, false}
+use mathlib.Core.List.{List, [], _∷_, _++_, map, append-assoc, append-nil}
+use mathlib.Core.Bool.{Bool, true, false, cond, not, _&&_, true≢false}
+use native.Mathlib.Nat.{add-zero}
 use native.Mathlib.Omega.{arith}
-use lib.ListN.{length, getD, length-map, List·getD-map}
-use lib.Dec.{leb}
-use borrow.Author.Tests.{leb-true, leb-false}
-use Rattle.exchange.specs.declared.Checked.{Checked}
-use Rattle.exchange.specs.declared.Profile.{Profile}
-use Rattle.exchange.specs.Columns.{Sort, bottle, ctd, kindsOf}
-use Rattle.exchange.specs.Places.{Table, accepted, outcomeOf}
-use Rattle.exchange.specs.Profiles.{Key, keyOf, labels, runCount}
-use Rattle.exchange.specs.Answers.{rowsIn, rowCells, profilesBy, checkedBy, checkedOf}
-use Rattle.exchange.specs.Records.{labelsBy, profileRows, noProfile, recordOf, profileBy, profileOf}
-use Rattle.exchange.specs.Promises.{rowKey, InProfile, Profiled, ProfilesPart}
-use Rattle.exchange.proofs.AcceptLaws.{rows-some}
-use Rattle.exchange.proofs.AskedLaws.{rows-many, row-in}
-use Rattle.exchange.proofs.LabelLaws.{Climbs, topOf, below, many, upFrom, below-next, below-most, below-low, many-low, many-high, many-some, below-all, label-from, label-to, label-below, place-below, rows-up, up-length, labels-climb, labels-top, labels-length, keys-inside, keys-border}
+use lib.ListN.{length, take, length-append}
+use lib.Dec.{eqb, ltb}
+use borrow.Author.Tests.{eq-eqb, ne-eqb, eqb-false, lt-ltb, ltb-false}
+use Rattle.text.specs.declared.Keys.{Keys}
+use Rattle.text.specs.Cells.{lineAt, pieces}
+use Rattle.text.specs.Rows.{noKeys}
+use Rattle.text.specs.Scans.{Stop}
+use Rattle.exchange.specs.declared.profiles.Run.{Run}
+use Rattle.exchange.specs.declared.rows.Row.{Row}
+use Rattle.exchange.specs.Faults.{clean}
+use Rattle.exchange.specs.Columns.{kindsOf}
+use Rattle.exchange.specs.Rows.{rowRules}
+use Rattle.exchange.specs.Places.{Table}
+use Rattle.exchange.specs.Profiles.{Key, keyOf, sameKey, labelsFrom, labels, rowsOf}
+use Rattle.exchange.specs.Walks.{linesFrom, rowsFrom, asFault}
+use Rattle.exchange.specs.RowsWords.{keyAt, KeysWithin, cellsOf, RowRead}
+use Rattle.exchange.specs.ProfileWords.{RowLines, none, more, withNoted, RunOf, RunRead}
+use Rattle.exchange.proofs.RunLaws.{lines-more, line-feed}
+use Rattle.exchange.proofs.HeaderLaws.{breaks-clean}
+use Rattle.exchange.proofs.RowLaws.{none-within}
+use Rattle.exchange.proofs.AcceptLaws.{RowKept}
+use Rattle.exchange.proofs.GridLaws.{line-fed}
 
--- ---- the profile of each row, of n rows and so many profiles
-record Labelled (ls : List ℕ) (n count : ℕ) : Type 0 where
-  low : Climbs 1 ls
-  high : Climbs 0 ls
-  top : topOf 0 ls ≡ count
-  long : length ls ≡ n
-
-ones-climb : (ks : List Key) → Climbs 1 (map (λ (k : Key). 1) ks)
-ones-climb [] = tt
-ones-climb (k ∷ ks) = (omega arith, omega arith, ones-climb ks)
-
-ones-top : (ks : List Key) → topOf 1 (map (λ (k : Key). 1) ks) ≡ 1
-unfolding topOf
-ones-top [] = refl
-ones-top (k ∷ ks) = ones-top ks
-
-labelled : (s : Sort) (ks : List Key) → 1 ≤ length ks → Labelled (labelsBy s ks) (length ks) (profilesBy s (runCount ks))
-unfolding labels runCount topOf
-labelled s [] h = absurd (omega arith)
-labelled bottle (k ∷ ks) h = record {
-  low = (omega arith, omega arith, labels-climb k 1 ks);
-  high = (omega arith, omega arith, labels-climb k 1 ks);
-  top = labels-top k 1 ks;
-  long = ap suc (labels-length k 1 ks);
-}
-labelled ctd (k ∷ ks) h = record {
-  low = (omega arith, omega arith, ones-climb ks);
-  high = (omega arith, omega arith, ones-climb ks);
-  top = ones-top ks;
-  long = ap suc (length-map ks (λ (k : Key). 1));
-}
-
--- ---- the record of a profile of m rows from a on
-record Shown (p : Profile) (a m : ℕ) : Type 0 where
-  number : p .number ≡ 0
-  line : p .line ≡ 0
-  column : p .column ≡ 0
-  first : p .first ≡ a
-  rows : p .rows ≡ m
-
-record-none : (t : Table) (f : List ℕ) (a m : ℕ) → m ≡ 0 → recordOf t f (upFrom a m) ≡ noProfile 21 0 0
-unfolding upFrom
-record-none t f a zero h = refl
-record-none t f a (suc m) h = absurd (omega arith)
-
-record-some : (t : Table) (f : List ℕ) (a m : ℕ) → 1 ≤ m → Shown (recordOf t f (upFrom a m)) a m
-unfolding upFrom
-record-some t f a zero h = absurd (omega arith)
-record-some t f a (suc m) h = record { number = refl; line = refl; column = refl; first = refl; rows = ap suc (up-length (a + 1) m) }
-
--- ---- keys by rows
-bottle-inside : (x₀ : Key) (ks : List Key) (i j : ℕ) → i < length ks → j < length ks → getD (labels ks) i 0 ≡ getD (labels ks) j 0 → getD ks i x₀ ≡ getD ks j x₀
-unfolding labels
-bottle-inside x₀ [] i j h g e = absurd (omega arith)
-bottle-inside x₀ (k ∷ ks) i j h g e = go (leb i j) refl
+-- ---- the data lines, one after the other
+pub rows-lines : (n : ℕ) (s : List ℕ) (t : Table) (i : ℕ) → ((r : ℕ) → r < n → RowKept t (linesFrom s i) r) → RowLines s (kindsOf (t .names)) i n
+rows-lines zero s t i h = none
+rows-lines (suc n) s t i h =
+    let k = h 0 (omega arith) in
+    let far = line-fed s i (k .line) in
+    more {i = i}
+    (record { inside = omega arith; room = far; feed = line-feed s i far; parts = refl })
+    (k .cells)
+    (rows-lines n s t (i + length (lineAt s i) + 1) (λ r l. later r (subst (λ (ps : List (List ℕ)). RowKept t ps (suc r)) (lines-more s i far) (h (suc r) (omega arith)))))
   where
-    go : (b : Bool) → leb i j ≡ b → getD (k ∷ ks) i x₀ ≡ getD (k ∷ ks) j x₀
-    go true q = keys-inside x₀ k 1 ks i j (leb-true i j q) g e
-    go false q = sym (keys-inside x₀ k 1 ks j i (omega (arith, leb-false i j q)) h (sym e))
+    later : (r : ℕ) → RowKept t (lineAt s i ∷ linesFrom s (i + length (lineAt s i) + 1)) (suc r) → RowKept t (linesFrom s (i + length (lineAt s i) + 1)) r
+    later r o = record { line = omega (arith, o .line); bytes = o .bytes; cells = o .cells }
 
-bottle-border : (x₀ : Key) (ks : List Key) (i : ℕ) → suc i < length ks → getD ks i x₀ ≡ getD ks (suc i) x₀ → getD (labels ks) i 0 ≡ getD (labels ks) (suc i) 0
-unfolding labels
-bottle-border x₀ [] i h e = absurd (omega arith)
-bottle-border x₀ (k ∷ ks) i h e = keys-border x₀ k 1 ks i (omega arith) e
+pub record RowFirst (s ks : List ℕ) (i n : ℕ) : Type 0 where
+  pub stop : Stop 44 s i (i + length (lineAt s i))
+  pub rules : rowRules ks (cellsOf s i) ≡ clean
+  pub later : RowLines s ks (i + length (lineAt s i) + 1) (n - 1)
 
-module _ (f : List ℕ) (t : Table) (n : ℕ) (e : outcomeOf f ≡ accepted t n) where
-  keys : List Key
-  keys = map (keyOf (kindsOf (t .names))) (rowsIn t n f)
+pub rows-apart : {s ks : List ℕ} {i n : ℕ} → RowLines s ks i n → 0 < n → RowFirst s ks i n
+rows-apart none h = absurd (omega arith)
+rows-apart {s} {ks} (more {n = m} a b c) h = record { stop = a; rules = b; later = subst (RowLines s ks _) (omega arith) c }
 
-  ls : List ℕ
-  ls = labelsBy (t .sort) keys
+rows-more : (s : List ℕ) (i n : ℕ) → 0 < n → i + length (lineAt s i) < length s → rowsFrom s i n ≡ cellsOf s i ∷ rowsFrom s (i + length (lineAt s i) + 1) (n - 1)
+rows-more s i n h f =
+    let e : n ≡ suc (n - 1) = omega arith in
+    ap (λ (m : ℕ). rowsFrom s i m) e ∙ ap (λ (ps : List (List ℕ)). take (suc (n - 1)) (map (pieces 44) ps)) (lines-more s i f)
 
-  count : ℕ
-  count = checkedOf f .profiles
+-- there are so many
+pub rows-many : {s ks : List ℕ} {i n : ℕ} → RowLines s ks i n → length (rowsFrom s i n) ≡ n
+rows-many none = refl
+rows-many {s} {ks} {i} (more {n = m} a b c) =
+    let d : suc m - 1 ≡ m = omega arith in
+    ap length (rows-more s i (suc m) (omega arith) (a .room)) ∙ ap (λ (n : ℕ). suc (length (rowsFrom s (i + length (lineAt s i) + 1) n))) d ∙ ap suc (rows-many c)
 
-  keys-many : length keys ≡ n
-  unfolding keys
-  keys-many = length-map (rowsIn t n f) (keyOf (kindsOf (t .names))) ∙ rows-many f t n e
+-- a row that keeps its rules is read with its key
+pub row-key : (s ks : List ℕ) (i : ℕ) (r : Row) → RowRead s ks i r → rowRules ks (cellsOf s i) ≡ clean → keyAt s (r .keys) ≡ keyOf ks (cellsOf s i)
+row-key s ks i r h e = h .key (go (r .number) (h .fault ∙ e))
+  where
+    go : (n : ℕ) → asFault n (r .at - i + 1) ≡ clean → n ≡ 0
+    go zero e = refl
+    go (suc n) e = absurd (breaks-clean (suc n) (r .at - i + 1) e)
 
-  count-is : count ≡ profilesBy (t .sort) (runCount keys)
-  unfolding count keys checkedOf
-  count-is = ap (λ (x : Checked). x .profiles) (ap (checkedBy f) e)
+-- ---- the profiles of the rows of keys ys, after n rows the last of which has key x and is in profile l
+abbrev pub labelsAfter : ℕ → Key → ℕ → List Key → List ℕ
+labelsAfter n x l ys = cond (ltb 0 n) (labelsFrom x l ys) (labels ys)
 
-  file-labels : Labelled ls n count
-  unfolding ls
-  file-labels =
-      subst (λ (m : ℕ). Labelled (labelsBy (t .sort) keys) n m) (sym count-is)
-      (subst (λ (m : ℕ). Labelled (labelsBy (t .sort) keys) m (profilesBy (t .sort) (runCount keys))) keys-many
-      (labelled (t .sort) keys (omega (arith, keys-many, rows-some f t n e))))
+abbrev pub labelNext : ℕ → Key → ℕ → Key → ℕ
+labelNext n x l y = l + cond (ltb 0 n && sameKey x y) 0 1
 
-  profile-is : (k : ℕ) → profileOf f k ≡ recordOf t f (upFrom (1 + below k ls) (many k ls))
-  unfolding profileOf profileRows ls keys
-  profile-is k = ap (profileBy f k) e ∙ ap (recordOf t f) (rows-up 1 k 1 ls (file-labels .low))
+labels-row : (n : ℕ) (x y : Key) (l : ℕ) (ys : List Key) → (n ≡ 0 → l ≡ 0) → labelsAfter n x l (y ∷ ys) ≡ labelNext n x l y ∷ labelsFrom y (labelNext n x l y) ys
+unfolding labelsFrom labels
+labels-row n x y l ys h = go (ltb 0 n) (sameKey x y) refl
+  where
+    go : (a b : Bool) → ltb 0 n ≡ a
+        → cond a (cond b (l ∷ labelsFrom y l ys) ((l + 1) ∷ labelsFrom y (l + 1) ys)) (1 ∷ labelsFrom y 1 ys) ≡ (l + cond (a && b) 0 1) ∷ labelsFrom y (l + cond (a && b) 0 1) ys
+    go true true e = rw (add-zero l)
+    go true false e = refl
+    go false b e = let z : l ≡ 0 = h (omega (arith, ltb-false 0 n e)) in rw z
 
-  profile-none : (k : ℕ) → many k ls ≡ 0 → profileOf f k ≡ noProfile 21 0 0
-  profile-none k h = profile-is k ∙ record-none t f (1 + below k ls) (many k ls) h
+labels-on : (n : ℕ) (y : Key) (l : ℕ) (ys : List Key) → labelsAfter (n + 1) y l ys ≡ labelsFrom y l ys
+labels-on n y l ys = rw (lt-ltb 0 (n + 1) (omega arith))
 
-  profile-zeroth : profileOf f 0 ≡ noProfile 21 0 0
-  profile-zeroth = profile-none 0 (many-low 1 0 ls (file-labels .low) (omega arith))
+labels-none : (n : ℕ) (x : Key) (l : ℕ) → labelsAfter n x l [] ≡ []
+unfolding labelsFrom labels
+labels-none n x l = go (ltb 0 n)
+  where
+    go : (b : Bool) → _≡_ {A = List ℕ} (cond b [] []) []
+    go true = refl
+    go false = refl
 
-  profile-beyond : (k : ℕ) → count < k → profileOf f k ≡ noProfile 21 0 0
-  profile-beyond k h = profile-none k (many-high 0 k ls (file-labels .high) (omega (arith, file-labels .top)))
+-- ---- a row noted
+rows-on : (k r l : ℕ) (ls : List ℕ) → rowsOf k r (l ∷ ls) ≡ cond (eqb l k) (r ∷ rowsOf k (r + 1) ls) (rowsOf k (r + 1) ls)
+unfolding rowsOf
+rows-on k r l ls = refl
 
-  profile-some : (k : ℕ) → 1 ≤ k → k ≤ count → 1 ≤ many k ls
-  profile-some k a b = many-some 0 k ls (file-labels .high) a (omega (arith, file-labels .top))
+rows-none : (k r : ℕ) → rowsOf k r [] ≡ []
+unfolding rowsOf
+rows-none k r = refl
 
-  profile-shown : (k : ℕ) → 1 ≤ k → k ≤ count → Shown (profileOf f k) (1 + below k ls) (many k ls)
-  profile-shown k a b = subst (λ (p : Profile). Shown p (1 + below k ls) (many k ls)) (sym (profile-is k)) (record-some t f (1 + below k ls) (many k ls) (profile-some k a b))
+module _ (r : Run) (row : ℕ) where
+  pub noted-other : (b : Bool) → not b ≡ true → r ≡ withNoted r row b
+  noted-other true h = absurd (true≢false (sym h))
+  noted-other false h = refl
 
-  count-some : 1 ≤ count
-  count-some =
-      let i : 0 < length ls = omega (arith, file-labels .long, rows-some f t n e) in
-      omega (arith, file-labels .top, label-from 1 ls 0 (file-labels .low) i, label-to 0 ls 0 (file-labels .high) i)
+  pub noted-first : (b : Bool) → not b ≡ false → r .rows ≡ 0 → _≡_ {A = Run} (record { first = row; rows = 1 }) (withNoted r row b)
+  noted-first false h z = absurd (true≢false h)
+  noted-first true h z = rw (eq-eqb (r .rows) 0 z, z)
 
-  -- a known profile is one of the count
-  known-in : (k : ℕ) → profileOf f k .number ≡ 0 → (1 ≤ k) × (k ≤ count)
-  known-in k h = go (leb 1 k) (leb k count) refl refl
-    where
-      refused-21 : profileOf f k ≡ noProfile 21 0 0 → ⊥
-      refused-21 q = omega (arith, sym h ∙ ap (λ (p : Profile). p .number) q)
+  pub noted-later : (b : Bool) → not b ≡ false → (r .rows ≡ 0 → ⊥) → _≡_ {A = Run} (record { first = r .first; rows = r .rows + 1 }) (withNoted r row b)
+  noted-later false h z = absurd (true≢false h)
+  noted-later true h z = rw (ne-eqb (r .rows) 0 z)
 
-      go : (a b : Bool) → leb 1 k ≡ a → leb k count ≡ b → (1 ≤ k) × (k ≤ count)
-      go true true p q = (leb-true 1 k p, leb-true k count q)
-      go true false p q = absurd (refused-21 (profile-beyond k (leb-false k count q)))
-      go false b p q = let z : k ≡ 0 = omega (arith, leb-false 1 k p) in absurd (refused-21 (ap (profileOf f) z ∙ profile-zeroth))
+noted-past : (b : Bool) (xs ys : List ℕ) (r : ℕ) → xs ++ cond b (r ∷ ys) ys ≡ cond b (xs ++ r ∷ []) xs ++ ys
+noted-past true xs ys r = sym (append-assoc xs (r ∷ []) ys)
+noted-past false xs ys r = refl
 
-  -- the rows of a profile are those of its label
-  row-label : (k r : ℕ) → InProfile f k r → (1 ≤ r) × (r ≤ n) × (getD ls (r - 1) 0 ≡ k)
-  row-label k r p =
-      let b = known-in k (p .known) in
-      let w = profile-shown k (b .0) (b .1) in
-      let next = below-next k ls in
-      let low : 1 ≤ r = omega (arith, p .from, w .first) in
-      let in-next : r - 1 < below (k + 1) ls = omega (arith, p .to, p .from, w .first, w .rows, next) in
-      let past : below k ls ≤ r - 1 = omega (arith, p .from, w .first) in
-      let less : getD ls (r - 1) 0 < k + 1 = label-below 1 (k + 1) ls (r - 1) (file-labels .low) in-next in
-      let inside : r - 1 < length ls = omega (arith, in-next, below-most (k + 1) ls) in
-      (low, omega (arith, inside, file-labels .long, low), from-label (leb k (getD ls (r - 1) 0)) refl less inside past)
-    where
-      from-label : (b : Bool) → leb k (getD ls (r - 1) 0) ≡ b → getD ls (r - 1) 0 < k + 1 → r - 1 < length ls → below k ls ≤ r - 1 → getD ls (r - 1) 0 ≡ k
-      from-label true q h i g = omega (arith, leb-true k (getD ls (r - 1) 0) q)
-      from-label false q h i g = absurd (omega (arith, place-below 1 k ls (r - 1) (file-labels .low) i (leb-false k (getD ls (r - 1) 0) q)))
+noted-run : (b : Bool) (xs : List ℕ) (r : Run) (row : ℕ) → RunOf xs r → RunOf (cond b (xs ++ row ∷ []) xs) (withNoted r row b)
+noted-run false xs r row h = h
+noted-run true [] r row h = record { many = omega (arith, h .many); first = λ z. rw (eq-eqb (r .rows) 0 (h .many)) }
+noted-run true (x ∷ xs) r row h =
+    let z : r .rows ≡ 0 → ⊥ = λ y. omega (arith, h .many) in
+    record { many = omega (arith, h .many, length-append xs (row ∷ [])); first = λ y. rw (ne-eqb (r .rows) 0 z) (h .first z) }
 
-  label-row : (r : ℕ) → 1 ≤ r → r ≤ n → InProfile f (getD ls (r - 1) 0) r
-  label-row r a b =
-      let k = getD ls (r - 1) 0 in
-      let inside : r - 1 < length ls = omega (arith, file-labels .long) in
-      let w = profile-shown k (label-from 1 ls (r - 1) (file-labels .low) inside) (omega (arith, file-labels .top, label-to 0 ls (r - 1) (file-labels .high) inside)) in
-      let past : below k ls ≤ r - 1 = go k (leb (below k ls) (r - 1)) refl refl in
-      let in-next : r - 1 < below (k + 1) ls = place-below 1 (k + 1) ls (r - 1) (file-labels .low) inside (omega arith) in
-      record { known = w .number; from = omega (arith, w .first, past); to = omega (arith, w .first, w .rows, in-next, below-next k ls) }
-    where
-      go : (k : ℕ) (b : Bool) → leb (below k ls) (r - 1) ≡ b → k ≡ getD ls (r - 1) 0 → below k ls ≤ r - 1
-      go k true q h = leb-true (below k ls) (r - 1) q
-      go k false q h = absurd (omega (arith, label-below 1 k ls (r - 1) (file-labels .low) (leb-false (below k ls) (r - 1) q), h))
+noted-few : (b : Bool) (r : Run) (row : ℕ) → r .rows ≤ row → withNoted r (row + 1) b .rows ≤ row + 1
+noted-few true r row h = omega arith
+noted-few false r row h = omega arith
 
-  key-at : (r : ℕ) → 1 ≤ r → r ≤ n → getD keys (r - 1) (keyOf (kindsOf (t .names)) []) ≡ rowKey t f r
-  unfolding keys
-  key-at r a b =
-      let w : 1 + (r - 1) ≡ r = omega arith in
-      List·getD-map (keyOf (kindsOf (t .names))) (rowsIn t n f) (r - 1) [] ∙ ap (keyOf (kindsOf (t .names))) (row-in f t n e (r - 1) (omega arith) ∙ ap (rowCells t f) w)
+noted-low : (b : Bool) (r : Run) (row : ℕ) → ((r .rows ≡ 0 → ⊥) → 1 ≤ r .first) → (withNoted r (row + 1) b .rows ≡ 0 → ⊥) → 1 ≤ withNoted r (row + 1) b .first
+noted-low false r row h z = h z
+noted-low true r row h z = go (eqb (r .rows) 0) refl
+  where
+    go : (c : Bool) → eqb (r .rows) 0 ≡ c → 1 ≤ cond c (row + 1) (r .first)
+    go true e = omega arith
+    go false e = h (eqb-false (r .rows) 0 e)
 
-  module _ (q : t .sort ≡ bottle) where
-    labels-are : (i : ℕ) → getD (labels keys) i 0 ≡ getD ls i 0
-    unfolding ls
-    labels-are i = sym (ap (λ (s : Sort). getD (labelsBy s keys) i 0) q)
+noted-high : (b : Bool) (r : Run) (row : ℕ) → r .first ≤ row → withNoted r (row + 1) b .first ≤ row + 1
+noted-high false r row h = omega arith
+noted-high true r row h = go (eqb (r .rows) 0)
+  where
+    go : (c : Bool) → cond c (row + 1) (r .first) ≤ row + 1
+    go true = omega arith
+    go false = omega arith
 
-    profile-equal : (k r s : ℕ) → InProfile f k r → InProfile f k s → rowKey t f r ≡ rowKey t f s
-    profile-equal k r s x y =
-        let a = row-label k r x in
-        let b = row-label k s y in
-        sym (key-at r (a .0) (a .1))
-        ∙ bottle-inside (keyOf (kindsOf (t .names)) []) keys (r - 1) (s - 1) (omega (arith, keys-many, a .0, a .1)) (omega (arith, keys-many, b .0, b .1))
-        (labels-are (r - 1) ∙ a .2 ∙ sym (b .2) ∙ sym (labels-are (s - 1)))
-        ∙ key-at s (b .0) (b .1)
+-- ---- so many rows are passed
+pub record Walked (s ks : List ℕ) (i n k at row label : ℕ) (last : Keys) (run : Run) : Type 0 where
+  pub lines : RowLines s ks at (n - row)
+  pub inside : row ≤ n
+  pub fresh : row ≡ 0 → label ≡ 0
+  pub few : label ≤ row
+  pub within : KeysWithin s last
+  pub counted : run .rows ≤ row
+  pub low : (run .rows ≡ 0 → ⊥) → 1 ≤ run .first
+  pub high : run .first ≤ row
+  pub past : List ℕ
+  pub noted : RunOf past run
+  pub whole : rowsOf k 1 (labels (map (keyOf ks) (rowsFrom s i n))) ≡ past ++ rowsOf k (row + 1) (labelsAfter row (keyAt s last) label (map (keyOf ks) (rowsFrom s at (n - row))))
 
-    profile-border : (k j r : ℕ) → InProfile f k r → InProfile f j (r + 1) → (k ≡ j → ⊥) → rowKey t f r ≡ rowKey t f (r + 1) → ⊥
-    profile-border k j r x y h g =
-        let a = row-label k r x in
-        let b = row-label j (r + 1) y in
-        let w : r + 1 - 1 ≡ suc (r - 1) = omega (arith, a .0) in
-        let same = bottle-border (keyOf (kindsOf (t .names)) []) keys (r - 1) (omega (arith, keys-many, a .0, b .1))
-        (key-at r (a .0) (a .1) ∙ g ∙ sym (key-at (r + 1) (b .0) (b .1)) ∙ ap (λ (i : ℕ). getD keys i (keyOf (kindsOf (t .names)) [])) w) in
-        h (sym (a .2) ∙ sym (labels-are (r - 1)) ∙ same ∙ labels-are (suc (r - 1)) ∙ ap (λ (i : ℕ). getD ls i 0) (sym w) ∙ b .2)
+pub walk-none : (s ks : List ℕ) (i n k : ℕ) → RowLines s ks i n → Walked s ks i n k i 0 0 noKeys (record { first = 0; rows = 0 })
+walk-none s ks i n k h = record {
+  lines = subst (RowLines s ks i) (sym e) h;
+  inside = omega arith;
+  fresh = λ z. refl;
+  few = omega arith;
+  within = none-within s;
+  counted = omega arith;
+  low = λ z. absurd (z refl);
+  high = omega arith;
+  past = [];
+  noted = record { many = refl; first = λ z. refl };
+  whole = ap (λ (m : ℕ). rowsOf k 1 (labels (map (keyOf ks) (rowsFrom s i m)))) (sym e);
+}
+  where
+    e : n - 0 ≡ n
+    e = omega arith
 
-  profiled : Profiled f t n
-  unfolding count
-  profiled = record {
-    zeroth = profile-zeroth;
-    beyond = profile-beyond;
-    known = λ k a b. let w = profile-shown k a b in (w .number, w .line, w .column);
-    begins = let w = profile-shown 1 (omega arith) count-some in omega (arith, w .first, below-low 1 1 ls (file-labels .low) (omega arith));
-    follows = λ k a b.
-        let w = profile-shown k a (omega arith) in
-        let v = profile-shown (k + 1) (omega arith) (omega arith) in
-        omega (arith, w .first, w .rows, v .first, below-next k ls);
-    ends =
-        let w = profile-shown count count-some (omega arith) in
-        omega (arith, w .first, w .rows, below-next count ls, below-all 0 (count + 1) ls (file-labels .high) (omega (arith, file-labels .top)), file-labels .long);
-    some = λ k a b. let w = profile-shown k a b in omega (arith, w .rows, profile-some k a b);
-    held = λ r a b. (getD ls (r - 1) 0, label-row r a b);
-    once = λ k j r x y. sym (row-label k r x .2) ∙ row-label j r y .2;
-    whole = λ q. count-is ∙ ap (λ (s : Sort). profilesBy s (runCount keys)) q;
-    equal = profile-equal;
-    border = profile-border;
+module _ {s ks : List ℕ} {i n k at row label : ℕ} {last : Keys} {run : Run} (w : Walked s ks i n k at row label last run) where
+  module _ (h : row < n) where
+    pub walk-first : RowFirst s ks at (n - row)
+    walk-first = rows-apart (w .lines) (omega arith)
+
+    pub walk-row : (keys : Keys) (next : ℕ) (x : Run) → KeysWithin s keys → keyAt s keys ≡ keyOf ks (cellsOf s at) → next ≡ labelNext row (keyAt s last) label (keyAt s keys)
+        → x ≡ withNoted run (row + 1) (eqb next k) → Walked s ks i n k (at + length (lineAt s at) + 1) (row + 1) next keys x
+    walk-row keys next x kw ek en ex = record {
+      lines = subst (RowLines s ks (at + length (lineAt s at) + 1)) less (walk-first .later);
+      inside = omega arith;
+      fresh = λ z. absurd (omega arith);
+      few = omega (arith, en, w .few, one-more (ltb 0 row && sameKey (keyAt s last) (keyAt s keys)));
+      within = kw;
+      counted = rw ex (noted-few (eqb next k) run row (w .counted));
+      low = rw ex (noted-low (eqb next k) run row (w .low));
+      high = rw ex (noted-high (eqb next k) run row (w .high));
+      past = cond (eqb next k) (w .past ++ (row + 1) ∷ []) (w .past);
+      noted = rw ex (noted-run (eqb next k) (w .past) run (row + 1) (w .noted));
+      whole = w .whole ∙ ap (λ (ls : List ℕ). w .past ++ rowsOf k (row + 1) ls) labels-are ∙ ap (λ (rs : List ℕ). w .past ++ rs) (rows-on k (row + 1) next (labelsAfter (row + 1) (keyAt s keys) next ys)) ∙ noted-past (eqb next k) (w .past) rest (row + 1);
+    }
+      where
+        less : n - row - 1 ≡ n - (row + 1)
+        less = omega arith
+
+        one-more : (b : Bool) → cond b 0 1 ≤ 1
+        one-more true = omega arith
+        one-more false = omega arith
+
+        ys : List Key
+        ys = map (keyOf ks) (rowsFrom s (at + length (lineAt s at) + 1) (n - (row + 1)))
+
+        rest : List ℕ
+        rest = rowsOf k (row + 1 + 1) (labelsAfter (row + 1) (keyAt s keys) next ys)
+
+        labels-are : labelsAfter row (keyAt s last) label (map (keyOf ks) (rowsFrom s at (n - row))) ≡ next ∷ labelsAfter (row + 1) (keyAt s keys) next ys
+        labels-are =
+            ap (λ (rs : List (List (List ℕ))). labelsAfter row (keyAt s last) label (map (keyOf ks) rs))
+            (rows-more s at (n - row) (omega arith) (walk-first .stop .room) ∙ ap (λ (m : ℕ). cellsOf s at ∷ rowsFrom s (at + length (lineAt s at) + 1) m) less)
+            ∙ ap (λ (y : Key). labelsAfter row (keyAt s last) label (y ∷ ys)) (sym ek)
+            ∙ labels-row row (keyAt s last) (keyAt s keys) label ys (w .fresh)
+            ∙ ap (λ (m : ℕ). m ∷ labelsFrom (keyAt s keys) m ys) (sym en)
+            ∙ ap (λ (ls : List ℕ). next ∷ ls) (sym (labels-on row (keyAt s keys) next ys))
+
+  pub walk-end : n ≤ row → RunRead s ks i n k run
+  walk-end h = record {
+    run = subst (λ (xs : List ℕ). RunOf xs run) (sym (w .whole ∙ ap (λ (ls : List ℕ). w .past ++ rowsOf k (row + 1) ls) none-left ∙ ap (λ (xs : List ℕ). w .past ++ xs) (rows-none k (row + 1)) ∙ append-nil (w .past))) (w .noted);
+    low = w .low;
+    high = omega (arith, w .high, w .inside);
   }
+    where
+      left : n - row ≡ 0
+      left = omega arith
 
-pub profiles-part : ProfilesPart
-unfolding profileOf
-profiles-part = record { file = λ f a b c e k. ap (profileBy f k) e; part = profiled }
+      none-left : labelsAfter row (keyAt s last) label (map (keyOf ks) (rowsFrom s at (n - row))) ≡ []
+      none-left = ap (λ (m : ℕ). labelsAfter row (keyAt s last) label (map (keyOf ks) (rowsFrom s at m))) left ∙ labels-none row (keyAt s last) label

@@ -1,6 +1,6 @@
 -- The run from the names line to the end of the file: one law for each end of the code's walk.
-use Prim.Native.Nat.{ℕ, zero, suc, _+_, _≤_, _<_}
-use mathlib.Core.Path.{_≡_, refl, sym, ap, _∙_}
+use Prim.Native.Nat.{ℕ, zero, suc, _+_, _-_, _≤_, _<_}
+use mathlib.Core.Path.{_≡_, refl, sym, ap, subst, _∙_}
 use mathlib.Core.List.{List, [], _∷_, map}
 use mathlib.Core.Bool.{Bool, true, false}
 use native.Mathlib.Omega.{arith}
@@ -22,6 +22,9 @@ use Rattle.exchange.specs.Places.{Table, Place, comments, names, units, 
 use Rattle.exchange.specs.Profiles.{missingInRows, keyOf, runCount}
 use Rattle.exchange.specs.Walks.{linesFrom, rowsFrom, StartsAt, lineOf, asFault, sortOf, sortFor, ColumnsRead, TableRead}
 use Rattle.exchange.specs.SurveyWords.{Told, RowsRead, UnitsRead, tableOf, NamesRead, SurveyRead}
+use Rattle.exchange.specs.HeadersWords.{HeaderLines}
+use Rattle.exchange.specs.Records.{headersLine}
+use Rattle.exchange.proofs.AcceptLaws.{accepted-table}
 use Rattle.exchange.proofs.RunLaws.{run-stopped, lines-end, lines-cut, run-line, line-clean, line-broken, starts-next}
 
 -- ---- a line that keeps rules 1 to 5
@@ -162,6 +165,15 @@ module _ (s : List ℕ) (i l kind : ℕ) (o : outcomeOf s ≡ run l (comments (s
   pub ctd-from : (kind ≡ 1 → ⊥) → outcomeOf s ≡ run l (comments ctd) (linesFrom s i)
   ctd-from n = o ∙ ap (λ (b : Bool). run l (comments (sortFor b)) (linesFrom s i)) (ne-eqb kind 1 n)
 
+-- the headers of a CTD file, the first of which is line l: a survey that says where they are
+pub headers-from : {s : List ℕ} {hs : List Header} {i j m w : ℕ} (l : ℕ) → w ≡ i → m ≡ l + length hs → HeaderLines s j i (l - 1) hs → HeaderLines s j w (m + 1 - 2 - length hs) hs
+headers-from {s} {hs} {i} {j} {m} {w} l e h x =
+    let k : l - 1 ≡ m + 1 - 2 - length hs = omega arith in
+    subst (λ (n : ℕ). HeaderLines s j n (m + 1 - 2 - length hs) hs) (sym e) (subst (λ (n : ℕ). HeaderLines s j i n hs) k x)
+
+pub not-ctd : bottle ≡ ctd → ⊥
+not-ctd e = let z : _≡_ {A = ℕ} 0 1 = cc in omega arith
+
 -- ---- what the calls promise
 -- of a survey that is refused
 module _ (v : Survey) (n l c : ℕ) (e : (v .number ≡ n) × (v .line ≡ l) × (v .column ≡ c)) (z : n ≡ 0 → ⊥) where
@@ -185,7 +197,7 @@ module _ (v : Survey) (n l c : ℕ) (e : (v .number ≡ n) × (v .line ≡ l) ×
   table-refused k s i m f = (record { stop = λ hs y. shown _ (f hs); on = λ hs y. absurd (never y); table = λ hs y. absurd (never y); at = λ y. absurd (never y); fed = λ y. absurd (never y) }, λ y. absurd (never y))
 
   pub survey-refused : (s : List ℕ) → outcomeOf s ≡ refused n l c → SurveyRead s v
-  survey-refused s f = record { stop = λ y. shown _ f; on = λ y. absurd (never y); fed = λ y. absurd (never y) }
+  survey-refused s f = record { stop = λ y. shown _ f; on = λ y. absurd (never y); fed = λ y. absurd (never y); headed = λ y. absurd (never y) }
 
 -- of a table that is read to its end
 pub table-told : (k : Sort) (hs : List Header) (s : List ℕ) (i l kind headers : ℕ) (c : Columns) (v : Survey) → ColumnsRead k (lineAt s i) c → c .number ≡ 0
@@ -203,8 +215,9 @@ table-told k hs s i l kind headers c v x z w f = record {
 
 -- of a file whose check comes to a names line
 pub survey-from : (s : List ℕ) (hs : List Header) (i l kind : ℕ) (v : Survey) → outcomeOf s ≡ run l (names (sortOf kind) hs) (linesFrom s i)
-    → 1 ≤ l → StartsAt s l i → NamesRead (sortOf kind) s i l v → (v .number ≡ 0 → v .kind ≡ kind) → SurveyRead s v
-survey-from s hs i l kind v o h f x g = record {
+    → 1 ≤ l → StartsAt s l i → NamesRead (sortOf kind) s i l v → (v .number ≡ 0 → v .kind ≡ kind)
+    → (v .number ≡ 0 → sortOf kind ≡ ctd → HeaderLines s i (v .headers) (l + 1 - 2 - length hs) hs) → SurveyRead s v
+survey-from s hs i l kind v o h f x g d = record {
   stop = λ z. o ∙ x .stop hs z;
   on = λ z. (
     tableOf (sortOf kind) hs s i l,
@@ -214,4 +227,6 @@ survey-from s hs i l kind v o h f x g = record {
     ap (λ (j : ℕ). namesOf (lineAt s j)) (sym (x .at z)),
   );
   fed = λ z. rw (x .at z) (x .fed z);
+  headed = λ z t e. subst (λ (u : Table). u .sort ≡ ctd → HeaderLines s (v .names) (v .headers) (headersLine u) (u .headers)) (accepted-table (sym (o ∙ x .on hs z) ∙ e))
+      (λ q. subst (λ (j : ℕ). HeaderLines s j (v .headers) (l + 1 - 2 - length hs) hs) (sym (x .at z)) (d z q));
 }

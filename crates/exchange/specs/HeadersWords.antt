@@ -1,14 +1,16 @@
 -- The words of the inner contracts of the headers' reading. No promise of a public call cites them.
-use Prim.Native.Nat.{ℕ, _+_, _≤_, _<_}
+use Prim.Native.Nat.{ℕ, _+_, _-_, _≤_, _<_}
 use mathlib.Core.Path.{_≡_}
 use mathlib.Core.Bool.{true}
-use mathlib.Core.List.{List}
-use lib.ListN.{length}
-use Rattle.text.specs.Cells.{lineAt}
+use mathlib.Core.List.{List, [], _∷_, map}
+use lib.ListN.{length, getD}
+use Rattle.text.specs.Cells.{lineAt, pieces}
 use Rattle.exchange.specs.declared.headers.Header.{Header}
+use Rattle.exchange.specs.declared.headers.Headers.{Headers}
 use Rattle.exchange.specs.Faults.{Fault, _then_}
-use Rattle.exchange.specs.Headers.{rawName, nameRule, headerRules}
-use Rattle.exchange.specs.Walks.{lineFault, asFault}
+use Rattle.exchange.specs.Headers.{Header as FileHeader, headerOf, rawName, nameRule, headerRules}
+use Rattle.exchange.specs.Grid.{starts}
+use Rattle.exchange.specs.Walks.{StartsAt, lineFault, asFault, headersAt}
 
 -- the line that starts at i ends at e and has its first = at q
 pub record Parted (s : List ℕ) (i q e : ℕ) : Type 0 where
@@ -30,3 +32,18 @@ pub record HeaderRead (f : Fault) (s : List ℕ) (i : ℕ) (r : Header) : Type 0
   pub fault : asFault (r .number) (r .column) ≡ f
   pub parted : r .number ≡ 0 → Parted s i (r .equals) (r .end)
   pub named : r .number ≡ 0 → i < r .equals
+
+-- line l, counted from 0, stands at i
+pub record LineStands (s : List ℕ) (l i : ℕ) : Type 0 where
+  pub place : i ≡ starts (map length (pieces 10 s)) l
+  pub text : getD (pieces 10 s) l [] ≡ lineAt s i
+
+-- the headers hs stand from place i, line l, up to the place end
+pub data HeaderLines (s : List ℕ) (end : ℕ) : ℕ → ℕ → List FileHeader → Type 0 where
+  none : {l : ℕ} → HeaderLines s end end l []
+  more : {i l q e : ℕ} {hs : List FileHeader} → Parted s i q e → LineStands s l i → HeaderLines s end (e + 1) (l + 1) hs → HeaderLines s end i l (headerOf (lineAt s i) ∷ hs)
+
+-- the headers read from place i on, which is line l counted from 1
+pub record HeadersPlaced (s : List ℕ) (i l : ℕ) (r : Headers) : Type 0 where
+  pub lines : r .number ≡ 0 → 1 ≤ l → StartsAt s l i → HeaderLines s (r .at) i (l - 1) (headersAt s (r .count) (r .starts) (r .ends))
+  pub many : r .number ≡ 0 → r .line ≡ l + length (headersAt s (r .count) (r .starts) (r .ends))

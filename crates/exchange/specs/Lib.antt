@@ -9,13 +9,13 @@ pub mod Profiles
 pub mod Answers
 pub mod Located
 pub mod Records
-pub mod RuleOrder
-pub mod Promises
 pub mod Walks
 pub mod LineWords
 pub mod NameWords
 pub mod HeadersWords
 pub mod ColumnWords
 pub mod RowsWords
+pub mod ProfileWords
+pub mod ValueWords
 pub mod SurveyWords
 pub mod AskWords

@@ -13,7 +13,8 @@ use Rattle.text.specs.Judge.{kindOf, judge}
 use Rattle.text.specs.Rows.{sizeOf}
 use Rattle.exchange.specs.declared.CastTime.{CastTime}
 use Rattle.exchange.specs.declared.CastTime.the-variants.{Given, Missing}
-use Rattle.exchange.specs.declared.Profile.{Profile}
+use Rattle.exchange.specs.declared.ProfileRecord.{ProfileRecord}
+use Rattle.exchange.specs.declared.CellPlace.{CellPlace}
 use Rattle.exchange.specs.Faults.{placeIn}
 use Rattle.exchange.specs.Headers.{rawName, valueOf, Header}
 use Rattle.exchange.specs.Columns.{Sort, bottle, ctd, kindsOf}
@@ -86,11 +87,11 @@ abbrev pub castTime : Value → CastTime
 castTime (given x p) = timeIn (judge (kindOf 10) x)
 castTime absent = Missing
 
-abbrev pub noProfile : ℕ → ℕ → ℕ → Profile
+abbrev pub noProfile : ℕ → ℕ → ℕ → ProfileRecord
 noProfile a b c = record { number = a; line = b; column = c; time = Missing; first = 0; rows = 0; castno = 0; date = 0 }
 
 -- of the profile of the given rows
-abbrev pub recordOf : Table → List ℕ → List ℕ → Profile
+abbrev pub recordOf : Table → List ℕ → List ℕ → ProfileRecord
 recordOf t f [] = noProfile 21 0 0
 recordOf t f (r ∷ rs) = record {
   number = 0;
@@ -103,11 +104,11 @@ recordOf t f (r ∷ rs) = record {
   date = numberIn 9 (stationValue t f r (bytes "DATE"));
 }
 
-abbrev pub profileBy : List ℕ → ℕ → Outcome → Profile
+abbrev pub profileBy : List ℕ → ℕ → Outcome → ProfileRecord
 profileBy f k (accepted t n) = recordOf t f (profileRows t n f k)
 profileBy f k (refused a b c) = noProfile a b c
 
-unfoldable pub profileOf : List ℕ → ℕ → Profile
+unfoldable pub profileOf : List ℕ → ℕ → ProfileRecord
 profileOf f k = profileBy f k (outcomeOf f)
 
 -- ---- a station value of a profile by its name: 21 where there is no such profile, header or column
@@ -138,3 +139,11 @@ stationPlace f (refusedBy a b c) = nowhere
 abbrev pub stationRefusal : Stationed → List ℕ
 stationRefusal (stands p) = 0 ∷ 0 ∷ 0 ∷ []
 stationRefusal (refusedBy a b c) = a ∷ b ∷ c ∷ []
+
+-- both by value
+abbrev pub noPlace : ℕ → ℕ → ℕ → CellPlace
+noPlace a b c = record { number = a; line = b; column = c; place = nowhere }
+
+abbrev pub stationAnswer : List ℕ → Stationed → CellPlace
+stationAnswer f (stands p) = record { number = 0; line = 0; column = 0; place = trimmedPlace f p }
+stationAnswer f (refusedBy a b c) = noPlace a b c

@@ -8,10 +8,12 @@ use Rattle.exchange.specs.declared.columns.Columns.{Columns}
 use Rattle.exchange.specs.declared.top.Walk.{Walk}
 use Rattle.exchange.specs.declared.survey.Survey.{Survey}
 use Rattle.exchange.specs.Headers.{Header}
-use Rattle.exchange.specs.Columns.{Sort, namesOf, kindsOf}
+use Rattle.exchange.specs.Columns.{Sort, ctd, namesOf, kindsOf}
 use Rattle.exchange.specs.Places.{Table, names, units, rows, after, accepted, refused, run, outcomeOf}
 use Rattle.exchange.specs.Profiles.{missingInRows, keyOf, runCount}
 use Rattle.exchange.specs.Walks.{linesFrom, rowsFrom, StartsAt, sortOf, TableRead}
+use Rattle.exchange.specs.HeadersWords.{HeaderLines}
+use Rattle.exchange.specs.Records.{headersLine}
 
 -- the lines after END_DATA, from place i on, which is line l
 pub record TailRead (s : List ℕ) (i l : ℕ) (r : Walk) : Type 0 where
@@ -63,3 +65,4 @@ pub record SurveyRead (s : List ℕ) (v : Survey) : Type 0 where
   pub stop : (v .number ≡ 0 → ⊥) → outcomeOf s ≡ refused (v .number) (v .line) (v .column)
   pub on : v .number ≡ 0 → (t : Table) × (outcomeOf s ≡ accepted t (v .rows)) × TableRead s t v × (t .sort ≡ sortOf (v .kind)) × (t .names ≡ namesOf (lineAt s (v .names)))
   pub fed : v .number ≡ 0 → v .names + length (lineAt s (v .names)) < length s
+  pub headed : v .number ≡ 0 → (t : Table) → outcomeOf s ≡ accepted t (v .rows) → t .sort ≡ ctd → HeaderLines s (v .names) (v .headers) (headersLine t) (t .headers)

@@ -7,7 +7,7 @@ ghost use lib.Dec.{eqb};
 ghost use Rattle.text.specs.Cells.{lineAt};
 ghost use Rattle.text.specs.Catalogue.{names, kinds as kindsListed};
 ghost use Rattle.exchange.specs.Headers.{rawName, headersSaid};
-ghost use Rattle.exchange.specs.HeadersWords.{Parted, namedFault, headerFault, HeaderRead};
+ghost use Rattle.exchange.specs.HeadersWords.{Parted, namedFault, headerFault, HeaderRead, HeadersPlaced};
 ghost use Rattle.exchange.specs.Walks.{namesAt, HeadersRead};
 use crate::lines::line_at;
 use crate::names::has_station;
@@ -36,7 +36,7 @@ pub struct Header {
 }
 
 // The first = from at on; e where there is none before it.
-fn equals_from(s: &[u8], at: usize, e: usize) -> usize
+pub fn equals_from(s: &[u8], at: usize, e: usize) -> usize
     requires { ⌜ (e ≡ at + length (lineAt (now s) at)) × (e ≤ length (now s)) ⌝ }
     ensures { λ r. ⌜ r ≡ at + length (rawName (lineAt (now (s .entry)) at)) ⌝ }
 {
@@ -160,7 +160,7 @@ fn headers_refused(line: u64, number: u64, column: u64) -> Headers
 // The header lines from the NUMBER_HEADERS line on, which starts at `start`.
 pub fn read_headers(s: &[u8], start: usize, first: u64) -> Headers
     requires { ⌜ (start ≤ length (now s)) × (first ≤ start + 2) × ((start < length (now s) → getD (now s) start 0 ≡ 35 → ⊥)) ⌝ }
-    ensures { λ r. ⌜ HeadersRead (now (s .entry)) start first r ⌝ }
+    ensures { λ r. ⌜ HeadersRead (now (s .entry)) start first r × HeadersPlaced (now (s .entry)) start first r ⌝ }
 {
     if s.len() <= start {
         return headers_refused(first, 14, 1);

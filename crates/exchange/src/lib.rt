@@ -3,6 +3,7 @@ ghost use mathlib.Core.Path.{_≡_};
 ghost use Rattle.text.specs.Spaces.{IsPart};
 ghost use Rattle.exchange.specs.Answers.{checkedOf, cellOf, refusalBy, askedOf, placeFor, readingFor, flaggedOf};
 ghost use Rattle.exchange.specs.Located.{locatedOf};
+ghost use Rattle.exchange.specs.Records.{profileOf, stationedOf, stationPlace, stationRefusal, noPlace, stationAnswer};
 use text::Reading;
 use text::Span;
 
@@ -12,9 +13,11 @@ mod headers;
 mod lines;
 mod names;
 mod places;
+mod profiles;
 mod rows;
 mod survey;
 mod top;
+mod values;
 
 // The kind of a file.
 pub enum FileKind {
@@ -58,7 +61,7 @@ pub enum CastTime {
 }
 
 // A profile's record where the number is 0, else the refusal.
-pub struct Profile {
+pub struct ProfileRecord {
     pub number: u64,
     pub line: u64,
     pub column: u64,
@@ -67,6 +70,14 @@ pub struct Profile {
     pub rows: u64,
     pub castno: u64,
     pub date: u64,
+}
+
+// Where a trimmed text stands in the file; or the refusal, with the empty place at the file's start.
+pub struct CellPlace {
+    pub number: u64,
+    pub line: u64,
+    pub column: u64,
+    pub place: Span,
 }
 
 // Where the cells of a measurement stand, with their spaces, and what column they are of; or the refusal.
@@ -230,4 +241,79 @@ pub fn locate(file: &[u8], row: u64, column: u64) -> Located
         flagged: 0 < a.flag,
         flag: asking::place_in(file, a.at, a.feed, a.flag as usize),
     }
+}
+
+// The record of profile k.
+pub fn profile(file: &[u8], k: u64) -> ProfileRecord
+    ensures { λ r. ⌜ r ≡ profileOf (now (file .entry)) k ⌝ }
+{
+    let p = profiles::profile_at(file, k);
+    if p.number != 0 {
+        return ProfileRecord {
+            number: p.number,
+            line: p.line,
+            column: p.column,
+            time: CastTime::Missing,
+            first: 0,
+            rows: 0,
+            castno: 0,
+            date: 0,
+        };
+    }
+    let time = profiles::station_value(file, p, b"TIME");
+    let castno = profiles::station_value(file, p, b"CASTNO");
+    let date = profiles::station_value(file, p, b"DATE");
+    ProfileRecord {
+        number: 0,
+        line: 0,
+        column: 0,
+        time: values::time_in(file, time),
+        first: p.first,
+        rows: p.rows,
+        castno: values::number_in(file, castno, 8),
+        date: values::number_in(file, date, 9),
+    }
+}
+
+fn no_place(number: u64, line: u64, column: u64) -> CellPlace
+    ensures { λ r. ⌜ r ≡ noPlace number line column ⌝ }
+{
+    CellPlace {
+        number,
+        line,
+        column,
+        place: Span { start: 0, len: 0 },
+    }
+}
+
+// Where a station value of profile k stands, by its name: trimmed; for other languages.
+pub fn station_place<'a>(file: &'a [u8], k: u64, name: &'a [u8]) -> CellPlace
+    ensures { λ r. ⌜ r ≡ stationAnswer (now (file .entry)) (stationedOf (now (file .entry)) k (now (name .entry))) ⌝ }
+{
+    let p = profiles::profile_at(file, k);
+    if p.number != 0 {
+        return no_place(p.number, p.line, p.column);
+    }
+    let v = profiles::station_value(file, p, name);
+    if !v.found {
+        return no_place(21, 0, 0);
+    }
+    CellPlace {
+        number: 0,
+        line: 0,
+        column: 0,
+        place: text::trim_span(file, v.start, v.start + v.len),
+    }
+}
+
+// A station value of profile k by its name: the trimmed part of the file itself; refusal gets number, line and column.
+pub fn station<'a>(file: &'a [u8], k: u64, name: &'a [u8], refusal: &mut [u64; 3]) -> &'a [u8]
+    ensures { λ r. ⌜ IsPart (file .entry) r (stationPlace (now (file .entry)) (stationedOf (now (file .entry)) k (now (name .entry)))) ⌝ }
+    ensures { λ r. ⌜ now (refusal .exit) ≡ stationRefusal (stationedOf (now (file .entry)) k (now (name .entry))) ⌝ }
+{
+    let r = station_place(file, k, name);
+    *refusal = [r.number, r.line, r.column];
+    let b = r.place.start;
+    let n = r.place.len;
+    &file[b..b + n]
 }

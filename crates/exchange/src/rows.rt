@@ -47,7 +47,7 @@ fn row_refused(at: usize, number: u64) -> Row
     }
 }
 
-fn one(b: bool) -> u64
+pub fn one(b: bool) -> u64
     ensures { λ r. ⌜ r ≡ cond b 1 0 ⌝ }
 {
     if b { 1 } else { 0 }
@@ -86,7 +86,7 @@ fn refused_at(s: &[u8], start: usize, at: usize, e: usize, rest: usize, number: 
 }
 
 // The cells of the line from start to its line feed at e, by their kinds.
-fn read_row<'a>(s: &'a [u8], start: usize, e: usize, kinds: &'a [u8]) -> Row
+pub fn read_row<'a>(s: &'a [u8], start: usize, e: usize, kinds: &'a [u8]) -> Row
     requires { ⌜ Stop 44 (now s) start e × (0 < length (now kinds)) × (length (now kinds) ≤ 256) ⌝ }
     ensures { λ r. ⌜ RowRead (now (s .entry)) (now (kinds .entry)) start r ⌝ }
 {

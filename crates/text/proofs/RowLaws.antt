@@ -143,9 +143,13 @@ module _ (i : ℕ) (kinds s : List ℕ) (c : ℕ) where
     unfolding next
     judged-there = ej
 
-    pub left-refused : (j .number ≡ 0 → ⊥) → left at k m w ≡ endedAt at k m w j
-    left-refused z = ap (λ (ks : List ℕ). cellsFrom i at k m w ks (pieces c (lineAt s at))) kinds-on
+    refused : (j .number ≡ 0 → ⊥) → left at k m w ≡ endedAt at k m w j
+    refused z = ap (λ (ks : List ℕ). cellsFrom i at k m w ks (pieces c (lineAt s at))) kinds-on
         ∙ from-refused i at k m w (getD kinds k 0) (drop (k + 1) kinds) (cellAt c s at) (laterPieces c (lineAt s at)) j judged-there z
+
+    -- t is what the whole line gives, x what the code returns, with the keys v
+    pub left-refused : (j .number ≡ 0 → ⊥) → (t x : CellsRead) (v : Keys) → t ≡ left at k m w → x ≡ endedAt at k m v j → v ≡ w → x ≡ t
+    left-refused z t x v p h e = h ∙ ap (λ (u : Keys). endedAt at k m u j) e ∙ sym (p ∙ refused z)
 
     module _ (z : j .number ≡ 0) (m' : ℕ) (em : m' ≡ m + share (getD kinds k 0) j) (w' : Keys) (ew : w' ≡ noted (getD kinds k 0) at (j .at) (j .size) w) where
       -- the cells, first and others
@@ -184,12 +188,15 @@ module _ (i : ℕ) (kinds s : List ℕ) (c : ℕ) where
           kinds-left n = rw (lib.ListN.length-drop (k + 1) kinds) (omega arith)
 
       -- by the code's test
-      pub left-ended : (eqb (getD s (j .at) 0) 10 || eqb (k + 1) (length kinds)) ≡ true → left at k m w ≡ endedAt at (k + 1) m' w' j
-      left-ended f = go (eqb (getD s (j .at) 0) 10) refl f
+      ended : (eqb (getD s (j .at) 0) 10 || eqb (k + 1) (length kinds)) ≡ true → left at k m w ≡ endedAt at (k + 1) m' w' j
+      ended f = go (eqb (getD s (j .at) 0) 10) refl f
         where
           go : (b : Bool) → eqb (getD s (j .at) 0) 10 ≡ b → (b || eqb (k + 1) (length kinds)) ≡ true → left at k m w ≡ endedAt at (k + 1) m' w' j
           go true p f = left-feed (eqb-true _ _ p)
           go false p f = left-last (eqb-true _ _ f)
+
+      pub left-ended : (eqb (getD s (j .at) 0) 10 || eqb (k + 1) (length kinds)) ≡ true → (t x : CellsRead) (v : Keys) → t ≡ left at k m w → x ≡ endedAt at (k + 1) m' v j → v ≡ w' → x ≡ t
+      left-ended f t x v p h e = h ∙ ap (λ (u : Keys). endedAt at (k + 1) m' u j) e ∙ sym (p ∙ ended f)
 
       pub left-goes : (eqb (getD s (j .at) 0) 10 || eqb (k + 1) (length kinds)) ≡ false → (getD s (j .at) 0 ≡ 10 → ⊥) × (left at k m w ≡ left (j .at + 1) (k + 1) m' w')
       left-goes f = go (eqb (getD s (j .at) 0) 10) refl f

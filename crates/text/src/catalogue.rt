@@ -4,6 +4,7 @@ ghost use Prim.Native.Nat.{_+_, _*_, _≤_};
 ghost use lib.ListN.{length};
 ghost use Rattle.text.specs.Bytes.{equal};
 ghost use Rattle.text.specs.Catalogue.{entryAt, padded};
+use crate::lines::byte_at;
 
 // The names, each padded with zeros to 16 bytes, in rising byte order.
 pub const NAMES: [u8; 768] = [
@@ -843,16 +844,10 @@ pub fn is_entry<'a>(listed: &'a [u8], k: usize, name: &'a [u8]) -> bool
     let a = 16 * k;
     let mut j = 0;
     while j < 16 {
-        if listed[a + j] != padded_byte(name, j) {
+        if listed[a + j] != byte_at(name, j) {
             return false;
         }
         j += 1;
     }
     true
-}
-
-fn padded_byte(name: &[u8], j: usize) -> u8
-    ensures { λ r. ⌜ r ≡ lib.ListN.getD (now (name .entry)) j 0 ⌝ }
-{
-    if j < name.len() { name[j] } else { 0 }
 }

@@ -74,19 +74,19 @@ fn flag(s: &[u8], i: usize, e: usize, separator: u8, ctd: bool) -> Judged
     let a = spaces(s, i, e, separator);
     let b = s[a];
     if (b == separator) | (b == 10) {
-        return blank_cell(s, a, e, separator);
+        blank_cell(s, a, e, separator)
+    } else if (b < 48) | (57 < b) {
+        wrong_cell(s, a, e, separator)
+    } else {
+        let c = close(s, a + 1, e, separator, false, (b - 48) as u64, 0);
+        if c.number != 0 {
+            c
+        } else if (b == 48) | (ctd & (b == 56)) {
+            out_of_range(c.at)
+        } else {
+            c
+        }
     }
-    if (b < 48) | (57 < b) {
-        return wrong_cell(s, a, e, separator);
-    }
-    let c = close(s, a + 1, e, separator, false, (b - 48) as u64, 0);
-    if c.number != 0 {
-        return c;
-    }
-    if (b == 48) | (ctd & (b == 56)) {
-        return out_of_range(c.at);
-    }
-    c
 }
 
 fn key(s: &[u8], i: usize, e: usize, separator: u8) -> Judged
@@ -96,9 +96,10 @@ fn key(s: &[u8], i: usize, e: usize, separator: u8) -> Judged
     let a = spaces(s, i, e, separator);
     let b = s[a];
     if (b == separator) | (b == 10) {
-        return blank_cell(s, a, e, separator);
+        blank_cell(s, a, e, separator)
+    } else {
+        close(s, word_end(s, a, e, separator), e, separator, false, 0, 0)
     }
-    close(s, word_end(s, a, e, separator), e, separator, false, 0, 0)
 }
 
 pub fn whole_number(s: &[u8], i: usize, e: usize, separator: u8, most: usize) -> Judged
@@ -108,17 +109,18 @@ pub fn whole_number(s: &[u8], i: usize, e: usize, separator: u8, most: usize) ->
     let a = spaces(s, i, e, separator);
     let b = s[a];
     if (b == separator) | (b == 10) {
-        return blank_cell(s, a, e, separator);
+        blank_cell(s, a, e, separator)
+    } else {
+        let w = digits(s, a, e, separator, a + 10, 0);
+        let q = w.at;
+        if most < q - a {
+            wrong_cell(s, q, e, separator)
+        } else if q == a {
+            wrong_cell(s, q, e, separator)
+        } else {
+            close(s, q, e, separator, false, w.v, 0)
+        }
     }
-    let w = digits(s, a, e, separator, a + 10, 0);
-    let q = w.at;
-    if most < q - a {
-        return wrong_cell(s, q, e, separator);
-    }
-    if q == a {
-        return wrong_cell(s, q, e, separator);
-    }
-    close(s, q, e, separator, false, w.v, 0)
 }
 
 fn date(s: &[u8], i: usize, e: usize, separator: u8) -> Judged
@@ -128,22 +130,24 @@ fn date(s: &[u8], i: usize, e: usize, separator: u8) -> Judged
     let a = spaces(s, i, e, separator);
     let b = s[a];
     if (b == separator) | (b == 10) {
-        return blank_cell(s, a, e, separator);
+        blank_cell(s, a, e, separator)
+    } else {
+        let w = digits(s, a, e, separator, a + 9, 0);
+        let q = w.at;
+        let v = w.v;
+        if q - a != 8 {
+            wrong_cell(s, q, e, separator)
+        } else {
+            let c = close(s, q, e, separator, false, v, 0);
+            if c.number != 0 {
+                c
+            } else if is_date(v) {
+                c
+            } else {
+                out_of_range(c.at)
+            }
+        }
     }
-    let w = digits(s, a, e, separator, a + 9, 0);
-    let q = w.at;
-    let v = w.v;
-    if q - a != 8 {
-        return wrong_cell(s, q, e, separator);
-    }
-    let c = close(s, q, e, separator, false, v, 0);
-    if c.number != 0 {
-        return c;
-    }
-    if is_date(v) {
-        return c;
-    }
-    out_of_range(c.at)
 }
 
 // The rest of -999 after its sign.
@@ -152,15 +156,14 @@ fn nines(s: &[u8], p: usize, e: usize, separator: u8) -> Judged
     ensures { λ r. ⌜ r ≡ judgedOf (next separator (now (s .entry)) p) (timeOf (45 ∷ body separator (now (s .entry)) p)) ⌝ }
 {
     if s[p] != 57 {
-        return wrong_cell(s, p, e, separator);
+        wrong_cell(s, p, e, separator)
+    } else if s[p + 1] != 57 {
+        wrong_cell(s, p, e, separator)
+    } else if s[p + 2] != 57 {
+        wrong_cell(s, p, e, separator)
+    } else {
+        close(s, p + 3, e, separator, true, 999, 0)
     }
-    if s[p + 1] != 57 {
-        return wrong_cell(s, p, e, separator);
-    }
-    if s[p + 2] != 57 {
-        return wrong_cell(s, p, e, separator);
-    }
-    close(s, p + 3, e, separator, true, 999, 0)
 }
 
 // A time of day, after its spaces.
@@ -172,16 +175,17 @@ fn clock(s: &[u8], a: usize, e: usize, separator: u8) -> Judged
     let q = w.at;
     let v = w.v;
     if q - a != 4 {
-        return wrong_cell(s, q, e, separator);
+        wrong_cell(s, q, e, separator)
+    } else {
+        let c = close(s, q, e, separator, false, v, 0);
+        if c.number != 0 {
+            c
+        } else if (v / 100 <= 23) & (v % 100 <= 59) {
+            c
+        } else {
+            out_of_range(c.at)
+        }
     }
-    let c = close(s, q, e, separator, false, v, 0);
-    if c.number != 0 {
-        return c;
-    }
-    if (v / 100 <= 23) & (v % 100 <= 59) {
-        return c;
-    }
-    out_of_range(c.at)
 }
 
 fn time(s: &[u8], i: usize, e: usize, separator: u8) -> Judged
@@ -191,12 +195,12 @@ fn time(s: &[u8], i: usize, e: usize, separator: u8) -> Judged
     let a = spaces(s, i, e, separator);
     let b = s[a];
     if (b == separator) | (b == 10) {
-        return blank_cell(s, a, e, separator);
+        blank_cell(s, a, e, separator)
+    } else if b == 45 {
+        nines(s, a + 1, e, separator)
+    } else {
+        clock(s, a, e, separator)
     }
-    if b == 45 {
-        return nines(s, a + 1, e, separator);
-    }
-    clock(s, a, e, separator)
 }
 
 fn free(s: &[u8], i: usize, e: usize, separator: u8) -> Judged
@@ -217,22 +221,18 @@ pub fn by_kind(s: &[u8], i: usize, e: usize, separator: u8, kind: u8) -> Judged
     ensures { λ r. ⌜ r ≡ judgedOf (next separator (now (s .entry)) i) (judgeKind (kindOf kind) (cellAt separator (now (s .entry)) i)) ⌝ }
 {
     if kind < 4 {
-        return ranged(decimal(s, i, e, separator), top(kind));
+        ranged(decimal(s, i, e, separator), top(kind))
+    } else if kind < 6 {
+        flag(s, i, e, separator, kind == 5)
+    } else if kind < 8 {
+        key(s, i, e, separator)
+    } else if kind == 8 {
+        ranged(whole_number(s, i, e, separator, 9), 999)
+    } else if kind == 9 {
+        date(s, i, e, separator)
+    } else if kind == 10 {
+        time(s, i, e, separator)
+    } else {
+        free(s, i, e, separator)
     }
-    if kind < 6 {
-        return flag(s, i, e, separator, kind == 5);
-    }
-    if kind < 8 {
-        return key(s, i, e, separator);
-    }
-    if kind == 8 {
-        return ranged(whole_number(s, i, e, separator, 9), 999);
-    }
-    if kind == 9 {
-        return date(s, i, e, separator);
-    }
-    if kind == 10 {
-        return time(s, i, e, separator);
-    }
-    free(s, i, e, separator)
 }

@@ -92,24 +92,25 @@ fn unsigned(s: &[u8], p: usize, e: usize, separator: u8, minus: bool) -> Judged
     let q = w.at;
     let v = w.v;
     if 9 < q - p {
-        return wrong_cell(s, q, e, separator);
-    }
-    if s[q] != 46 {
+        wrong_cell(s, q, e, separator)
+    } else if s[q] != 46 {
         if q == p {
-            return wrong_cell(s, q, e, separator);
+            wrong_cell(s, q, e, separator)
+        } else {
+            close(s, q, e, separator, minus, v * 1000000, 0)
         }
-        return close(s, q, e, separator, minus, v * 1000000, 0);
+    } else {
+        let f = digits(s, q + 1, e, separator, q + 8, v);
+        let r = f.at;
+        let after = r - (q + 1);
+        if 6 < after {
+            wrong_cell(s, r, e, separator)
+        } else if r - p == 1 {
+            wrong_cell(s, r, e, separator)
+        } else {
+            close(s, r, e, separator, minus, f.v * power(after), after as u64)
+        }
     }
-    let f = digits(s, q + 1, e, separator, q + 8, v);
-    let r = f.at;
-    let after = r - (q + 1);
-    if 6 < after {
-        return wrong_cell(s, r, e, separator);
-    }
-    if r - p == 1 {
-        return wrong_cell(s, r, e, separator);
-    }
-    close(s, r, e, separator, minus, f.v * power(after), after as u64)
 }
 
 fn after_sign(a: usize, e: usize, b: u8) -> usize
@@ -126,7 +127,8 @@ pub fn decimal(s: &[u8], i: usize, e: usize, separator: u8) -> Judged
     let a = spaces(s, i, e, separator);
     let b = s[a];
     if (b == separator) | (b == 10) {
-        return blank_cell(s, a, e, separator);
+        blank_cell(s, a, e, separator)
+    } else {
+        unsigned(s, after_sign(a, e, b), e, separator, b == 45)
     }
-    unsigned(s, after_sign(a, e, b), e, separator, b == 45)
 }

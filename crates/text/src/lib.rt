@@ -121,7 +121,7 @@ pub fn first_control(line: &[u8]) -> Found
 pub fn trimmed(s: &[u8], a: usize, e: usize) -> &[u8]
     ensures { λ r. ⌜ IsPart (s .entry) r (trimSpan (now (s .entry)) a e) ⌝ }
 {
-    let p = spaces::span_of(s, a, e);
+    let p = trim_span(s, a, e);
     let b = p.start;
     let n = p.len;
     &s[b..b + n]
@@ -131,7 +131,18 @@ pub fn trimmed(s: &[u8], a: usize, e: usize) -> &[u8]
 pub fn trim_span(s: &[u8], a: usize, e: usize) -> Span
     ensures { λ r. ⌜ r ≡ trimSpan (now (s .entry)) a e ⌝ }
 {
-    spaces::span_of(s, a, e)
+    if e < a {
+        return Span { start: 0, len: 0 };
+    }
+    if s.len() < e {
+        return Span { start: 0, len: 0 };
+    }
+    let z = spaces::end_of(s, a, e);
+    let b = spaces::start_of(s, a, z);
+    Span {
+        start: b,
+        len: z - b,
+    }
 }
 
 // Whether two texts have the same bytes.

@@ -38,21 +38,19 @@ pub fn character_of(a: u8, b: u8, c: u8, d: u8) -> usize
     ensures { λ r. ⌜ r ≡ character (a ∷ b ∷ c ∷ d ∷ []) ⌝ }
 {
     if in_range(0x00, 0x7f, a) {
-        return 1;
+        1
+    } else if in_range(0xc2, 0xdf, a) & in_range(0x80, 0xbf, b) {
+        2
+    } else if is_three(a, b, c) {
+        3
+    } else if is_four(a, b, c, d) {
+        4
+    } else {
+        0
     }
-    if in_range(0xc2, 0xdf, a) & in_range(0x80, 0xbf, b) {
-        return 2;
-    }
-    if is_three(a, b, c) {
-        return 3;
-    }
-    if is_four(a, b, c, d) {
-        return 4;
-    }
-    0
 }
 
-// The byte at i, and 0, which goes on no character, past the end.
+// The byte at i, and 0 past the end: no byte that goes on a character, and what pads a name.
 pub fn byte_at(s: &[u8], i: usize) -> u8
     ensures { λ r. ⌜ r ≡ getD (now (s .entry)) i 0 ⌝ }
 {

@@ -3,11 +3,10 @@ ghost use mathlib.Core.Path.{_≡_};
 ghost use Prim.Native.Nat.{_+_, _-_, _≤_};
 ghost use lib.ListN.{length};
 ghost use lib.Seq.{slice};
-ghost use Rattle.text.specs.Spaces.{back, lead, trimSpan};
-use crate::Span;
+ghost use Rattle.text.specs.Spaces.{back, lead};
 
 // Where the bytes from a to e end without the spaces at their end.
-fn end_of(s: &[u8], a: usize, e: usize) -> usize
+pub fn end_of(s: &[u8], a: usize, e: usize) -> usize
     requires { ⌜ (a ≤ e) × (e ≤ length (now s)) ⌝ }
     ensures { λ r. ⌜ (r ≡ a + length (back (slice a e (now (s .entry))))) × (a ≤ r) × (r ≤ e) × (back (slice a e (now (s .entry))) ≡ slice a r (now (s .entry))) ⌝ }
 {
@@ -19,11 +18,11 @@ fn end_of(s: &[u8], a: usize, e: usize) -> usize
         }
         j = k;
     }
-    j
+    j // nothing but spaces
 }
 
 // Where the bytes from a to e start without the spaces at their front.
-fn start_of(s: &[u8], a: usize, e: usize) -> usize
+pub fn start_of(s: &[u8], a: usize, e: usize) -> usize
     requires { ⌜ (a ≤ e) × (e ≤ length (now s)) ⌝ }
     ensures { λ r. ⌜ (a ≤ r) × (r ≤ e) × (lead (slice a e (now (s .entry))) ≡ slice r e (now (s .entry))) ⌝ }
 {
@@ -35,21 +34,4 @@ fn start_of(s: &[u8], a: usize, e: usize) -> usize
         i += 1;
     }
     i
-}
-
-pub fn span_of(s: &[u8], a: usize, e: usize) -> Span
-    ensures { λ r. ⌜ r ≡ trimSpan (now (s .entry)) a e ⌝ }
-{
-    if e < a {
-        return Span { start: 0, len: 0 };
-    }
-    if s.len() < e {
-        return Span { start: 0, len: 0 };
-    }
-    let z = end_of(s, a, e);
-    let b = start_of(s, a, z);
-    Span {
-        start: b,
-        len: z - b,
-    }
 }

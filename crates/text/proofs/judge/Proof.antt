@@ -2,9 +2,6 @@ use borrow.Author.Needs.{needs}
 use Rattle.text.proofs.RowLaws.{one-cell}
 use Rattle.text.proofs.judge.Statement.{statement}
 use Rattle.text.proofs.judge.Tie as tie
-use Rattle.text.proofs.judge.Reads as reads
-use Rattle.text.proofs.judge.Lts as lts
-use Rattle.text.proofs.judge_cells.Reads as judge-cells-reads
 
 -- src/lib.rt:174:45
 slice-aggregate-judge-cells : tie.Need-slice-aggregate-judge-cells

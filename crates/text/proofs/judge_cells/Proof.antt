@@ -4,11 +4,6 @@ use Rattle.text.specs.Rows.{cellsAt}
 use Rattle.text.proofs.CellLaws.{stop-from}
 use Rattle.text.proofs.judge_cells.Statement.{statement}
 use Rattle.text.proofs.judge_cells.Tie as tie
-use Rattle.text.proofs.judge_cells.Reads as reads
-use Rattle.text.proofs.judge_cells.Lts as lts
-use Rattle.text.proofs.rows.from_left.Reads as from-left-reads
-use Rattle.text.proofs.rows.no_cells.Reads as no-cells-reads
-use Rattle.text.proofs.runs.stops.Reads as stops-reads
 
 -- src/lib.rt:162:8
 stops-requires : tie.Need-stops-requires

@@ -8,11 +8,11 @@ use Rattle.text.proofs.SpaceLaws.{span-fits}
 use Rattle.text.proofs.trimmed.Statement.{statement}
 use Rattle.text.proofs.trimmed.Tie as tie
 
-span-of-requires : tie.Need-span-of-requires
-span-of-requires c κs = search needs
+trim-span-requires : tie.Need-trim-span-requires
+trim-span-requires c κs = search needs
 
 add-result : tie.Need-add-result
-add-result c = omega (arith, span-fits _ _ _ _ (c .span-of .ensures))
+add-result c = omega (arith, span-fits _ _ _ _ (c .trim-span .ensures))
 
 sub-result : tie.Need-sub-result
 sub-result c = search needs
@@ -21,16 +21,16 @@ part-result-start : tie.Need-part-result-start
 part-result-start c = search needs
 
 part-result-end : tie.Need-part-result-end
-part-result-end c = span-fits _ _ _ _ (c .span-of .ensures)
+part-result-end c = span-fits _ _ _ _ (c .trim-span .ensures)
 
 returns : tie.Need-returns
 returns c =
     let s = c .before .before .before .args .s in
-    let p = c .before .span-of .result in
-    rw (← c .before .span-of .ensures)
+    let p = c .before .trim-span .result in
+    rw (← c .before .trim-span .ensures)
     (record { block = refl; offset = add-comm _ _; content = ap (λ (k : ℕ). take k (drop (p .start) (s .now))) (add-sub-cancel-left (p .start) (p .len)) })
 
 pub trimmed-spec : {M : Type 1} → statement M
 trimmed-spec =
     tie.close
-    (tie.spec span-of-requires add-result sub-result part-result-start part-result-end returns)
+    (tie.spec trim-span-requires add-result sub-result part-result-start part-result-end returns)

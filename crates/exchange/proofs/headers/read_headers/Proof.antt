@@ -6,8 +6,10 @@ use lib.ListN.{length, replicate, length-set}
 use borrow.Author.Needs.{needs}
 use Rattle.exchange.specs.Columns.{ctd}
 use Rattle.exchange.specs.Places.{comments, run}
-use Rattle.exchange.specs.Walks.{linesFrom, StartsAt}
+use Rattle.exchange.specs.Walks.{linesFrom, StartsAt, headersAt}
+use Rattle.exchange.specs.HeadersWords.{HeaderLines}
 use Rattle.exchange.proofs.HeaderRunLaws.{left, first-ended, first-refused, first-none, first-on, left-ended, left-refused, left-on, left-named, left-lacking, header-counted, headers-refused}
+use Rattle.exchange.proofs.HeaderLineLaws.{headers-none, headers-start, headers-count, headers-placed}
 use Rattle.exchange.proofs.headers.read_headers.Statement.{statement}
 use Rattle.exchange.proofs.headers.read_headers.Tie as tie
 
@@ -16,6 +18,8 @@ Inv-loop s start first said listed kinds starts₀ ends₀ at₀ line₀ count�
     (count ≤ said) × (said ≤ 64) × (1 ≤ line) × (line ≤ at + 2) × (at ≤ length s) × (length starts ≡ 64) × (length ends ≡ 64)
     × (run first (comments ctd) (linesFrom s start) ≡ left s said count starts ends line at)
     × (1 ≤ first → StartsAt s first start → StartsAt s line at)
+    × (line ≡ first + length (headersAt s count starts ends))
+    × (1 ≤ first → StartsAt s first start → HeaderLines s at start (first - 1) (headersAt s count starts ends))
 
 abbrev μ-loop : tie.MeasureT-loop
 μ-loop s start first said listed kinds starts₀ ends₀ at₀ line₀ count₀ starts ends at line count = said - count
@@ -99,6 +103,8 @@ loop-holds c =
       first-on (st .args .s .now) (st .args .start) (st .args .first) (h .before .if1 .left) (st .pre .2 (h .before .if1 .left)) _ (h .named-line .ensures)
           z _ (d .headers-said .ensures .0) (c .before .before .before .if3 .left) (replicate 64 0) (replicate 64 0) (omega arith) (omega arith),
       header-counted (st .args .s .now) (st .args .start) _ _ (st .args .first) w,
+      headers-count (st .args .s .now) 0 (replicate 64 0) (replicate 64 0) (st .args .first) (st .args .start) _ _ (omega arith) (omega arith) w _ (headers-none (st .args .s .now) _ _ _),
+      λ o y. headers-placed (st .args .s .now) 0 (replicate 64 0) (replicate 64 0) (st .args .first) (st .args .start) _ _ (omega arith) (omega arith) w _ _ (omega arith) o (headers-none (st .args .s .now) _ _ _) y (headers-start (st .args .s .now) _ _ _ _),
     )
 
 headers-refused-requires-4 : tie.Need-headers-refused-requires-4 Inv-loop μ-loop
@@ -193,6 +199,8 @@ loop-again c =
       simp length-set (l .loop .inv .6),
       l .loop .inv .7 ∙ left-on _ _ _ _ _ _ _ (f .before .loop-test .taken) (f .if4 .left) _ (g .header-line .ensures) z (omega (arith, f .before .loop-test .taken, l .loop .inv)) (omega (arith, f .before .loop-test .taken, l .loop .inv)),
       λ o y. header-counted _ _ _ _ (l .loop .line) w (l .loop .inv .2) (l .loop .inv .8 o y),
+      headers-count _ _ _ _ _ _ _ _ (omega (arith, f .before .loop-test .taken, l .loop .inv)) (omega (arith, f .before .loop-test .taken, l .loop .inv)) w _ (l .loop .inv .9),
+      λ o y. headers-placed _ _ _ _ _ _ _ _ (omega (arith, f .before .loop-test .taken, l .loop .inv)) (omega (arith, f .before .loop-test .taken, l .loop .inv)) w _ _ (l .loop .inv .4) o (l .loop .inv .9) (l .loop .inv .8 o y) (l .loop .inv .10 o y),
     )
 
 slice-aggregate-has-station : tie.Need-slice-aggregate-has-station Inv-loop μ-loop
@@ -215,13 +223,15 @@ returns-6 c =
     let a = c .before in
     let l = a .before .before .before .before in
     let d = l .before .before .before .before .before in
-    let st = d .before .before .before .before .before .before in
-    record {
-      stop = λ y. absurd (y refl);
-      on = λ y. l .loop .inv .7 ∙ left-named (st .args .s .now) (d .headers-said .result) (l .loop .count) (l .loop .starts) (l .loop .ends) (l .loop .line) (l .loop .at) (a .before .before .before .loop-test .left) _ (a .has-station .ensures) (c .if6 .taken);
-      inside = λ y. (l .loop .inv .4, l .loop .inv .3, omega (arith, l .loop .inv));
-      counted = λ y o z. (l .loop .inv .2, l .loop .inv .8 o z);
-    }
+    let st = d .before .before .before .before .before .before in (
+      record {
+        stop = λ y. absurd (y refl);
+        on = λ y. l .loop .inv .7 ∙ left-named (st .args .s .now) (d .headers-said .result) (l .loop .count) (l .loop .starts) (l .loop .ends) (l .loop .line) (l .loop .at) (a .before .before .before .loop-test .left) _ (a .has-station .ensures) (c .if6 .taken);
+        inside = λ y. (l .loop .inv .4, l .loop .inv .3, omega (arith, l .loop .inv));
+        counted = λ y o z. (l .loop .inv .2, l .loop .inv .8 o z);
+      },
+      record { lines = λ y o z. l .loop .inv .10 o z; many = λ y. l .loop .inv .9 },
+    )
 
 returns-7 : tie.Need-returns-7 Inv-loop μ-loop
 returns-7 c =

@@ -3,7 +3,7 @@ use mathlib.Core.Path.{_∙_}
 use mathlib.Core.List.{[]}
 use native.Mathlib.Omega.{arith}
 use borrow.Author.Needs.{needs}
-use Rattle.exchange.proofs.SurveyLaws.{bottle-from, ctd-from, survey-refused, survey-from}
+use Rattle.exchange.proofs.SurveyLaws.{not-ctd, bottle-from, ctd-from, headers-from, survey-refused, survey-from}
 use Rattle.exchange.proofs.survey.survey_of.Statement.{statement}
 use Rattle.exchange.proofs.survey.survey_of.Tie as tie
 
@@ -51,7 +51,7 @@ returns-3 c =
     let s = w .counted y (omega arith) (f .first-line .ensures .counted z) in
     survey-from _ [] _ _ 1 _
     (bottle-from _ _ _ _ (f .first-line .ensures .on z .1 ∙ w .on _ y) (t .if3 .taken) (w .other y))
-    (s .0) (s .1) (c .table .ensures .0) (λ x. c .table .ensures .1 x .0)
+    (s .0) (s .1) (c .table .ensures .0) (λ x. c .table .ensures .1 x .0) (λ x q. absurd (not-ctd q))
 
 read-headers-requires : tie.Need-read-headers-requires
 read-headers-requires c κs =
@@ -70,11 +70,11 @@ returns-4 c =
     let f = k .before .before .before in
     let z = c .before .if4 .taken in
     survey-refused _ _ _ _ (c .refused3 .ensures) z _
-    (ctd-from _ (k .comments .result .at) _ _ (f .first-line .ensures .on (k .before .if1 .left) .1 ∙ k .comments .ensures .on _ (h .before .before .before .if2 .left)) (h .before .if3 .left) ∙ h .read-headers .ensures .stop z)
+    (ctd-from _ (k .comments .result .at) _ _ (f .first-line .ensures .on (k .before .if1 .left) .1 ∙ k .comments .ensures .on _ (h .before .before .before .if2 .left)) (h .before .if3 .left) ∙ h .read-headers .ensures .0 .stop z)
 
 table-requires-2 : tie.Need-table-requires-2
 table-requires-2 c κs =
-    let w = c .before .before .read-headers .ensures .inside (c .if4 .left) in
+    let w = c .before .before .read-headers .ensures .0 .inside (c .if4 .left) in
     (w .0, w .1)
 
 returns-5 : tie.Need-returns-5
@@ -86,10 +86,11 @@ returns-5 c =
     let w = k .comments .ensures in
     let y = h .before .before .before .if2 .left in
     let s = w .counted y (omega arith) (f .first-line .ensures .counted (k .before .if1 .left)) in
-    let u = h .read-headers .ensures .counted z (s .0) (s .1) in
+    let u = h .read-headers .ensures .0 .counted z (s .0) (s .1) in
     survey-from _ _ _ _ 2 _
-    (ctd-from _ (k .comments .result .at) _ _ (f .first-line .ensures .on (k .before .if1 .left) .1 ∙ w .on _ y) (h .before .if3 .left) ∙ h .read-headers .ensures .on z)
+    (ctd-from _ (k .comments .result .at) _ _ (f .first-line .ensures .on (k .before .if1 .left) .1 ∙ w .on _ y) (h .before .if3 .left) ∙ h .read-headers .ensures .0 .on z)
     (u .0) (u .1) (c .table2 .ensures .0) (λ x. c .table2 .ensures .1 x .0)
+    (λ x q. headers-from _ (c .table2 .ensures .1 x .1) (h .read-headers .ensures .1 .many z) (h .read-headers .ensures .1 .lines z (s .0) (s .1)))
 
 pub survey-of-spec : {M : Type 1} → statement M
 survey-of-spec =

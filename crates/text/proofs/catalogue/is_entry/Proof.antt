@@ -31,15 +31,15 @@ add-if2 c = search needs
 shared-slice-read-if2 : tie.Need-shared-slice-read-if2 Inv-loop μ-loop
 shared-slice-read-if2 c = search needs
 
-padded-byte-requires : tie.Need-padded-byte-requires Inv-loop μ-loop
-padded-byte-requires c κs = search needs
+byte-at-requires : tie.Need-byte-at-requires Inv-loop μ-loop
+byte-at-requires c κs = search needs
 
 returns-2 : tie.Need-returns-2 Inv-loop μ-loop
 returns-2 c =
     let l = c .before .before .before in
     let e = l .before .before in
     let s = e .before .before .before in
-    sym (l .before .loop .inv .1 ∙ entry-stop _ (s .args .name .now) _ (s .pre) (e .if1 .left) _ (l .loop-test .taken) _ (c .before .padded-byte .ensures) (c .if2 .taken))
+    sym (l .before .loop .inv .1 ∙ entry-stop _ (s .args .name .now) _ (s .pre) (e .if1 .left) _ (l .loop-test .taken) _ (c .before .byte-at .ensures) (c .if2 .taken))
 
 add-j : tie.Need-add-j Inv-loop μ-loop
 add-j c = search needs
@@ -52,7 +52,7 @@ loop-again c =
     let l = c .before .before .before in
     let e = l .before .before in
     let s = e .before .before .before in
-    (search needs, l .before .loop .inv .1 ∙ entry-step _ (s .args .name .now) _ (s .pre) (e .if1 .left) _ (l .loop-test .taken) _ (c .before .padded-byte .ensures) (c .if2 .left))
+    (search needs, l .before .loop .inv .1 ∙ entry-step _ (s .args .name .now) _ (s .pre) (e .if1 .left) _ (l .loop-test .taken) _ (c .before .byte-at .ensures) (c .if2 .left))
 
 returns-3 : tie.Need-returns-3 Inv-loop μ-loop
 returns-3 c =
@@ -71,7 +71,7 @@ is-entry-spec =
     loop-holds
     add-if2
     shared-slice-read-if2
-    padded-byte-requires
+    byte-at-requires
     returns-2
     add-j
     loop-less

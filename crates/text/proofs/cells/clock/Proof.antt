@@ -1,4 +1,6 @@
+use native.Mathlib.Omega.{arith}
 use borrow.Author.Needs.{needs}
+use Rattle.text.proofs.CellLaws.{stop-moved}
 use Rattle.text.proofs.KindLaws.{clock-other, clock-refused, clock-good, clock-out}
 use Rattle.text.proofs.cells.clock.Statement.{statement}
 use Rattle.text.proofs.cells.clock.Tie as tie
@@ -7,13 +9,13 @@ add-digits : tie.Need-add-digits
 add-digits c = search needs
 
 digits-requires : tie.Need-digits-requires
-digits-requires c κs = search needs
+digits-requires c κs = (c .before .pre, (omega arith, omega arith, omega arith))
 
 sub-if1 : tie.Need-sub-if1
-sub-if1 c = search needs
+sub-if1 c = c .digits .ensures .low
 
 wrong-cell-requires : tie.Need-wrong-cell-requires
-wrong-cell-requires c κs = search needs
+wrong-cell-requires c κs = let w = c .before in stop-moved (w .before .before .pre) (w .digits .ensures .high)
 
 returns : tie.Need-returns
 returns c =
@@ -21,7 +23,7 @@ returns c =
     clock-other (w .before .before .pre) (w .digits .ensures) _ (c .before .if1 .taken) (c .wrong-cell .ensures)
 
 close-requires : tie.Need-close-requires
-close-requires c κs = search needs
+close-requires c κs = let w = c .before in stop-moved (w .before .before .pre) (w .digits .ensures .high)
 
 returns-2 : tie.Need-returns-2
 returns-2 c =
@@ -53,9 +55,9 @@ clock-spec =
     digits-requires
     sub-if1
     wrong-cell-requires
-    returns
     close-requires
+    out-of-range-requires
+    returns
     returns-2
     returns-3
-    out-of-range-requires
     returns-4)

@@ -1,4 +1,5 @@
 use mathlib.Core.Path.{sym, _∙_}
+use native.Mathlib.Omega.{arith}
 use borrow.Author.Needs.{needs}
 use Rattle.text.proofs.CellLaws.{stop-moved}
 use Rattle.text.proofs.ScanLaws.{judged-blank, judged-solid}
@@ -7,13 +8,15 @@ use Rattle.text.proofs.cells.date.Statement.{statement}
 use Rattle.text.proofs.cells.date.Tie as tie
 
 spaces-requires : tie.Need-spaces-requires
-spaces-requires c κs = search needs
+spaces-requires c κs = c .before .pre
 
 shared-slice-read-b : tie.Need-shared-slice-read-b
 shared-slice-read-b c = search needs
 
 blank-cell-requires : tie.Need-blank-cell-requires
-blank-cell-requires c κs = search needs
+blank-cell-requires c κs =
+    let a = c .before .before in
+    stop-moved (a .before .before .pre) (a .spaces .ensures .high)
 
 returns : tie.Need-returns
 returns c =
@@ -24,13 +27,17 @@ add-digits : tie.Need-add-digits
 add-digits c = search needs
 
 digits-requires : tie.Need-digits-requires
-digits-requires c κs = search needs
+digits-requires c κs =
+    let a = c .before .before in
+    (stop-moved (a .before .before .pre) (a .spaces .ensures .high), (omega arith, omega arith, omega arith))
 
 sub-if2 : tie.Need-sub-if2
-sub-if2 c = search needs
+sub-if2 c = c .digits .ensures .low
 
 wrong-cell-requires : tie.Need-wrong-cell-requires
-wrong-cell-requires c κs = search needs
+wrong-cell-requires c κs =
+    let w = c .before in
+    stop-moved (w .before .before .before .before .before .pre) (w .digits .ensures .high)
 
 returns-2 : tie.Need-returns-2
 returns-2 c =
@@ -42,7 +49,9 @@ returns-2 c =
     (date-other (stop-moved t (a .spaces .ensures .high)) (w .digits .ensures) _ (c .before .if2 .taken) (c .wrong-cell .ensures))
 
 close-requires : tie.Need-close-requires
-close-requires c κs = search needs
+close-requires c κs =
+    let w = c .before in
+    stop-moved (w .before .before .before .before .before .pre) (w .digits .ensures .high)
 
 returns-3 : tie.Need-returns-3
 returns-3 c =
@@ -89,15 +98,15 @@ date-spec =
     spaces-requires
     shared-slice-read-b
     blank-cell-requires
-    returns
     add-digits
     digits-requires
     sub-if2
     wrong-cell-requires
-    returns-2
     close-requires
-    returns-3
     is-date-requires
-    returns-4
     out-of-range-requires
+    returns
+    returns-2
+    returns-3
+    returns-4
     returns-5)

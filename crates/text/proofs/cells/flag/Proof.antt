@@ -8,13 +8,15 @@ use Rattle.text.proofs.cells.flag.Statement.{statement}
 use Rattle.text.proofs.cells.flag.Tie as tie
 
 spaces-requires : tie.Need-spaces-requires
-spaces-requires c κs = search needs
+spaces-requires c κs = c .before .pre
 
 shared-slice-read-b : tie.Need-shared-slice-read-b
 shared-slice-read-b c = search needs
 
 blank-cell-requires : tie.Need-blank-cell-requires
-blank-cell-requires c κs = search needs
+blank-cell-requires c κs =
+    let a = c .before .before in
+    stop-moved (a .before .before .pre) (a .spaces .ensures .high)
 
 returns : tie.Need-returns
 returns c =
@@ -22,7 +24,9 @@ returns c =
     judged-blank (a .before .before .pre) (a .spaces .ensures) _ _ (c .before .if1 .taken) (c .blank-cell .ensures)
 
 wrong-cell-requires : tie.Need-wrong-cell-requires
-wrong-cell-requires c κs = search needs
+wrong-cell-requires c κs =
+    let a = c .before .before .before in
+    stop-moved (a .before .before .pre) (a .spaces .ensures .high)
 
 returns-2 : tie.Need-returns-2
 returns-2 c =
@@ -91,14 +95,14 @@ flag-spec =
     spaces-requires
     shared-slice-read-b
     blank-cell-requires
-    returns
     wrong-cell-requires
-    returns-2
     add-close
     sub-close
     cast-close
     close-requires
-    returns-3
     out-of-range-requires
+    returns
+    returns-2
+    returns-3
     returns-4
     returns-5)

@@ -6,13 +6,15 @@ use Rattle.text.proofs.cells.key.Statement.{statement}
 use Rattle.text.proofs.cells.key.Tie as tie
 
 spaces-requires : tie.Need-spaces-requires
-spaces-requires c κs = search needs
+spaces-requires c κs = c .before .pre
 
 shared-slice-read-b : tie.Need-shared-slice-read-b
 shared-slice-read-b c = search needs
 
 blank-cell-requires : tie.Need-blank-cell-requires
-blank-cell-requires c κs = search needs
+blank-cell-requires c κs =
+    let a = c .before .before in
+    stop-moved (a .before .before .pre) (a .spaces .ensures .high)
 
 returns : tie.Need-returns
 returns c =
@@ -20,10 +22,12 @@ returns c =
     judged-blank (a .before .before .pre) (a .spaces .ensures) _ _ (c .before .if1 .taken) (c .blank-cell .ensures)
 
 word-end-requires : tie.Need-word-end-requires
-word-end-requires c κs = search needs
+word-end-requires c κs =
+    let a = c .before .before in
+    stop-moved (a .before .before .pre) (a .spaces .ensures .high)
 
 close-requires : tie.Need-close-requires
-close-requires c κs = search needs
+close-requires c κs = stop-moved (c .before .before .before .before .before .pre) (c .word-end .ensures .high)
 
 returns-2 : tie.Need-returns-2
 returns-2 c =
@@ -40,7 +44,7 @@ key-spec =
     spaces-requires
     shared-slice-read-b
     blank-cell-requires
-    returns
     word-end-requires
     close-requires
+    returns
     returns-2)

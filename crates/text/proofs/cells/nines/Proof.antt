@@ -8,7 +8,7 @@ shared-slice-read-if1 : tie.Need-shared-slice-read-if1
 shared-slice-read-if1 c = search needs
 
 wrong-cell-requires : tie.Need-wrong-cell-requires
-wrong-cell-requires c κs = search needs
+wrong-cell-requires c κs = c .before .before .before .pre
 
 returns : tie.Need-returns
 returns c = let a = c .before in time-first (a .before .before .before .pre) _ (a .if1 .taken) (c .wrong-cell .ensures)
@@ -20,7 +20,7 @@ shared-slice-read-if2 : tie.Need-shared-slice-read-if2
 shared-slice-read-if2 c = let a = c .before in omega (arith, nine-next (a .before .before .before .pre) (a .if1 .left))
 
 wrong-cell-requires-2 : tie.Need-wrong-cell-requires-2
-wrong-cell-requires-2 c κs = search needs
+wrong-cell-requires-2 c κs = c .before .before .before .before .before .pre
 
 returns-2 : tie.Need-returns-2
 returns-2 c =
@@ -38,7 +38,7 @@ shared-slice-read-if3 c =
     omega (arith, nines-two (a .before .before .before .pre) (a .if1 .left) (b .if2 .left))
 
 wrong-cell-requires-3 : tie.Need-wrong-cell-requires-3
-wrong-cell-requires-3 c κs = search needs
+wrong-cell-requires-3 c κs = c .before .before .before .before .before .before .before .pre
 
 returns-3 : tie.Need-returns-3
 returns-3 c =
@@ -67,15 +67,15 @@ nines-spec =
     (tie.spec
     shared-slice-read-if1
     wrong-cell-requires
-    returns
     add-if2
     shared-slice-read-if2
     wrong-cell-requires-2
-    returns-2
     add-if3
     shared-slice-read-if3
     wrong-cell-requires-3
-    returns-3
     add-close
     close-requires
+    returns
+    returns-2
+    returns-3
     returns-4)

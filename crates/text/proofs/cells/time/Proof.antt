@@ -7,13 +7,15 @@ use Rattle.text.proofs.cells.time.Statement.{statement}
 use Rattle.text.proofs.cells.time.Tie as tie
 
 spaces-requires : tie.Need-spaces-requires
-spaces-requires c κs = search needs
+spaces-requires c κs = c .before .pre
 
 shared-slice-read-b : tie.Need-shared-slice-read-b
 shared-slice-read-b c = search needs
 
 blank-cell-requires : tie.Need-blank-cell-requires
-blank-cell-requires c κs = search needs
+blank-cell-requires c κs =
+    let a = c .before .before in
+    stop-moved (a .before .before .pre) (a .spaces .ensures .high)
 
 returns : tie.Need-returns
 returns c =
@@ -38,7 +40,9 @@ returns-2 c =
     (time-minus-sign (stop-moved t (a .spaces .ensures .high)) _ (d .if1 .left) (c .before .if2 .taken) (c .nines .ensures))
 
 clock-requires : tie.Need-clock-requires
-clock-requires c κs = search needs
+clock-requires c κs =
+    let a = c .before .before .before in
+    stop-moved (a .before .before .pre) (a .spaces .ensures .high)
 
 returns-3 : tie.Need-returns-3
 returns-3 c =
@@ -55,9 +59,9 @@ time-spec =
     spaces-requires
     shared-slice-read-b
     blank-cell-requires
-    returns
     add-nines
     nines-requires
-    returns-2
     clock-requires
+    returns
+    returns-2
     returns-3)

@@ -1,3 +1,4 @@
+use native.Mathlib.Omega.{arith}
 use borrow.Author.Needs.{needs}
 use Rattle.text.proofs.CellLaws.{stop-moved}
 use Rattle.text.proofs.ScanLaws.{judged-blank, judged-solid}
@@ -6,13 +7,15 @@ use Rattle.text.proofs.cells.whole_number.Statement.{statement}
 use Rattle.text.proofs.cells.whole_number.Tie as tie
 
 spaces-requires : tie.Need-spaces-requires
-spaces-requires c κs = search needs
+spaces-requires c κs = c .before .pre .0
 
 shared-slice-read-b : tie.Need-shared-slice-read-b
 shared-slice-read-b c = search needs
 
 blank-cell-requires : tie.Need-blank-cell-requires
-blank-cell-requires c κs = search needs
+blank-cell-requires c κs =
+    let a = c .before .before in
+    stop-moved (a .before .before .pre .0) (a .spaces .ensures .high)
 
 returns : tie.Need-returns
 returns c =
@@ -23,13 +26,17 @@ add-digits : tie.Need-add-digits
 add-digits c = search needs
 
 digits-requires : tie.Need-digits-requires
-digits-requires c κs = search needs
+digits-requires c κs =
+    let a = c .before .before in
+    (stop-moved (a .before .before .pre .0) (a .spaces .ensures .high), (omega arith, omega arith, omega arith))
 
 sub-if2 : tie.Need-sub-if2
-sub-if2 c = search needs
+sub-if2 c = c .digits .ensures .low
 
 wrong-cell-requires : tie.Need-wrong-cell-requires
-wrong-cell-requires c κs = search needs
+wrong-cell-requires c κs =
+    let w = c .before in
+    stop-moved (w .before .before .before .before .before .pre .0) (w .digits .ensures .high)
 
 returns-2 : tie.Need-returns-2
 returns-2 c =
@@ -41,7 +48,9 @@ returns-2 c =
     (whole-wide (stop-moved t (a .spaces .ensures .high)) (w .digits .ensures) _ _ (c .before .if2 .taken) (c .wrong-cell .ensures))
 
 wrong-cell-requires-2 : tie.Need-wrong-cell-requires-2
-wrong-cell-requires-2 c κs = search needs
+wrong-cell-requires-2 c κs =
+    let w = c .before .before in
+    stop-moved (w .before .before .before .before .before .pre .0) (w .digits .ensures .high)
 
 returns-3 : tie.Need-returns-3
 returns-3 c =
@@ -53,7 +62,9 @@ returns-3 c =
     (whole-none (stop-moved t (a .spaces .ensures .high)) (w .digits .ensures) _ _ (d .if1 .left) (a .spaces .ensures .stops) (c .before .if3 .taken) (c .wrong-cell2 .ensures))
 
 close-requires : tie.Need-close-requires
-close-requires c κs = search needs
+close-requires c κs =
+    let w = c .before .before in
+    stop-moved (w .before .before .before .before .before .pre .0) (w .digits .ensures .high)
 
 returns-4 : tie.Need-returns-4
 returns-4 c =
@@ -72,13 +83,13 @@ whole-number-spec =
     spaces-requires
     shared-slice-read-b
     blank-cell-requires
-    returns
     add-digits
     digits-requires
     sub-if2
     wrong-cell-requires
-    returns-2
     wrong-cell-requires-2
-    returns-3
     close-requires
+    returns
+    returns-2
+    returns-3
     returns-4)

@@ -1,18 +1,21 @@
 -- The spaces after the text, and what stands there.
 use mathlib.Core.Path.{refl}
 use borrow.Author.Needs.{needs}
+use Rattle.text.proofs.CellLaws.{stop-moved}
 use Rattle.text.proofs.ScanLaws.{closed-good, closed-wrong}
 use Rattle.text.proofs.decimals.close.Statement.{statement}
 use Rattle.text.proofs.decimals.close.Tie as tie
 
 spaces-requires : tie.Need-spaces-requires
-spaces-requires c κs = search needs
+spaces-requires c κs = c .before .pre
 
 shared-slice-read-b : tie.Need-shared-slice-read-b
 shared-slice-read-b c = search needs
 
 wrong-cell-requires : tie.Need-wrong-cell-requires
-wrong-cell-requires c κs = search needs
+wrong-cell-requires c κs =
+    let a = c .before .before in
+    stop-moved (a .before .before .pre) (a .spaces .ensures .high)
 
 returns : tie.Need-returns
 returns c = let a = c .before .before in closed-good (a .before .before .pre) (a .spaces .ensures) _ _ (c .if1 .taken) refl

@@ -8,13 +8,15 @@ use Rattle.text.proofs.decimals.decimal.Statement.{statement}
 use Rattle.text.proofs.decimals.decimal.Tie as tie
 
 spaces-requires : tie.Need-spaces-requires
-spaces-requires c κs = search needs
+spaces-requires c κs = c .before .pre
 
 shared-slice-read-b : tie.Need-shared-slice-read-b
 shared-slice-read-b c = search needs
 
 blank-cell-requires : tie.Need-blank-cell-requires
-blank-cell-requires c κs = search needs
+blank-cell-requires c κs =
+    let a = c .before .before in
+    stop-moved (a .before .before .pre) (a .spaces .ensures .high)
 
 returns : tie.Need-returns
 returns c =
@@ -42,7 +44,7 @@ decimal-spec =
     spaces-requires
     shared-slice-read-b
     blank-cell-requires
-    returns
     after-sign-requires
     unsigned-requires
+    returns
     returns-2)

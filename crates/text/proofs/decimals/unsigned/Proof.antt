@@ -12,13 +12,13 @@ add-digits : tie.Need-add-digits
 add-digits c = search needs
 
 digits-requires : tie.Need-digits-requires
-digits-requires c κs = search needs
+digits-requires c κs = (c .before .pre, (omega arith, omega arith, omega arith))
 
 sub-if1 : tie.Need-sub-if1
-sub-if1 c = search needs
+sub-if1 c = c .digits .ensures .low
 
 wrong-cell-requires : tie.Need-wrong-cell-requires
-wrong-cell-requires c κs = search needs
+wrong-cell-requires c κs = let d = c .before in stop-moved (d .before .before .pre) (d .digits .ensures .high)
 
 returns : tie.Need-returns
 returns c =
@@ -29,7 +29,7 @@ shared-slice-read-if2 : tie.Need-shared-slice-read-if2
 shared-slice-read-if2 c = search needs
 
 wrong-cell-requires-2 : tie.Need-wrong-cell-requires-2
-wrong-cell-requires-2 c κs = search needs
+wrong-cell-requires-2 c κs = let d = c .before .before .before .before in stop-moved (d .before .before .pre) (d .digits .ensures .high)
 
 returns-2 : tie.Need-returns-2
 returns-2 c =
@@ -41,7 +41,7 @@ mul-close : tie.Need-mul-close
 mul-close c = let n = c .before .before .before in omega (arith, digits-small (n .before .digits .ensures .over) (n .if1 .left))
 
 close-requires : tie.Need-close-requires
-close-requires c κs = search needs
+close-requires c κs = let d = c .before .before .before .before in stop-moved (d .before .before .pre) (d .digits .ensures .high)
 
 returns-3 : tie.Need-returns-3
 returns-3 c =
@@ -66,10 +66,12 @@ add-after : tie.Need-add-after
 add-after c = search needs
 
 sub-after : tie.Need-sub-after
-sub-after c = search needs
+sub-after c = c .digits2 .ensures .low
 
 wrong-cell-requires-3 : tie.Need-wrong-cell-requires-3
-wrong-cell-requires-3 c κs = search needs
+wrong-cell-requires-3 c κs =
+    let f = c .before in
+    stop-moved (f .before .before .before .before .before .before .pre) (f .digits2 .ensures .high)
 
 returns-4 : tie.Need-returns-4
 returns-4 c =
@@ -81,7 +83,9 @@ sub-if5 : tie.Need-sub-if5
 sub-if5 c = search needs
 
 wrong-cell-requires-4 : tie.Need-wrong-cell-requires-4
-wrong-cell-requires-4 c κs = search needs
+wrong-cell-requires-4 c κs =
+    let f = c .before .before in
+    stop-moved (f .before .before .before .before .before .before .pre) (f .digits2 .ensures .high)
 
 returns-5 : tie.Need-returns-5
 returns-5 c =
@@ -90,7 +94,7 @@ returns-5 c =
     unsigned-point (d .before .before .pre) (d .digits .ensures) _ _ (f .before .if2 .left) (f .digits2 .ensures) (c .before .before .if4 .left) (c .before .if5 .taken) (c .wrong-cell4 .ensures)
 
 power-requires : tie.Need-power-requires
-power-requires c κs = search needs
+power-requires c κs = c .before .if4 .left
 
 mul-close-2 : tie.Need-mul-close-2
 mul-close-2 c =
@@ -102,7 +106,9 @@ mul-close-2 c =
     omega (arith, z)
 
 close-requires-2 : tie.Need-close-requires-2
-close-requires-2 c κs = search needs
+close-requires-2 c κs =
+    let f = c .before .before .before .before in
+    stop-moved (f .before .before .before .before .before .before .pre) (f .digits2 .ensures .high)
 
 returns-6 : tie.Need-returns-6
 returns-6 c =
@@ -120,24 +126,24 @@ unsigned-spec =
     digits-requires
     sub-if1
     wrong-cell-requires
-    returns
     shared-slice-read-if2
     wrong-cell-requires-2
-    returns-2
     mul-close
     close-requires
-    returns-3
     add-digits-2
     add-digits-3
     digits-requires-2
     add-after
     sub-after
     wrong-cell-requires-3
-    returns-4
     sub-if5
     wrong-cell-requires-4
-    returns-5
     power-requires
     mul-close-2
     close-requires-2
+    returns
+    returns-2
+    returns-3
+    returns-4
+    returns-5
     returns-6)

@@ -1,4 +1,3 @@
-use mathlib.Core.Path.{_∙_, sym}
 use borrow.Author.Needs.{needs}
 use Rattle.text.proofs.CharacterLaws.{character-1, character-2, character-3, character-4}
 use Rattle.text.proofs.lines.character_of.Statement.{statement}
@@ -8,7 +7,7 @@ in-range-requires : tie.Need-in-range-requires
 in-range-requires c κs = search needs
 
 returns : tie.Need-returns
-returns c = character-1 _ _ _ _ (sym (c .before .in-range .ensures) ∙ c .if1 .taken)
+returns c = character-1 _ _ _ _ (rw (c .before .in-range .ensures) at (c .if1 .taken))
 
 in-range-requires-2 : tie.Need-in-range-requires-2
 in-range-requires-2 c κs = search needs
@@ -19,7 +18,7 @@ in-range-requires-3 c κs = search needs
 returns-2 : tie.Need-returns-2
 returns-2 c =
     let d = c .before .before in
-    character-2 _ _ _ _ (sym (d .before .before .in-range .ensures) ∙ d .before .if1 .left) (rw (d .in-range2 .ensures, c .before .in-range3 .ensures) at (c .if2 .taken))
+    character-2 _ _ _ _ (rw (d .before .before .in-range .ensures) at (d .before .if1 .left)) (rw (d .in-range2 .ensures, c .before .in-range3 .ensures) at (c .if2 .taken))
 
 is-three-requires : tie.Need-is-three-requires
 is-three-requires c κs = search needs
@@ -29,9 +28,9 @@ returns-3 c =
     let e = c .before .before in
     let d = e .before .before in
     character-3 _ _ _ _
-    (sym (d .before .before .in-range .ensures) ∙ d .before .if1 .left)
+    (rw (d .before .before .in-range .ensures) at (d .before .if1 .left))
     (rw (d .in-range2 .ensures, e .before .in-range3 .ensures) at (e .if2 .left))
-    (sym (c .before .is-three .ensures) ∙ c .if3 .taken)
+    (rw (c .before .is-three .ensures) at (c .if3 .taken))
 
 is-four-requires : tie.Need-is-four-requires
 is-four-requires c κs = search needs
@@ -42,11 +41,11 @@ returns-4 c =
     let e = f .before .before in
     let d = e .before .before in
     character-4 _ _ _ _
-    (sym (d .before .before .in-range .ensures) ∙ d .before .if1 .left)
+    (rw (d .before .before .in-range .ensures) at (d .before .if1 .left))
     (rw (d .in-range2 .ensures, e .before .in-range3 .ensures) at (e .if2 .left))
     _
-    (sym (f .before .is-three .ensures) ∙ f .if3 .left)
-    (sym (c .before .is-four .ensures) ∙ c .if4 .taken)
+    (rw (f .before .is-three .ensures) at (f .if3 .left))
+    (rw (c .before .is-four .ensures) at (c .if4 .taken))
 
 returns-5 : tie.Need-returns-5
 returns-5 c =
@@ -54,23 +53,23 @@ returns-5 c =
     let e = f .before .before in
     let d = e .before .before in
     character-4 _ _ _ _
-    (sym (d .before .before .in-range .ensures) ∙ d .before .if1 .left)
+    (rw (d .before .before .in-range .ensures) at (d .before .if1 .left))
     (rw (d .in-range2 .ensures, e .before .in-range3 .ensures) at (e .if2 .left))
     _
-    (sym (f .before .is-three .ensures) ∙ f .if3 .left)
-    (sym (c .before .is-four .ensures) ∙ c .if4 .left)
+    (rw (f .before .is-three .ensures) at (f .if3 .left))
+    (rw (c .before .is-four .ensures) at (c .if4 .left))
 
 pub character-of-spec : {M : Type 1} → statement M
 character-of-spec =
     tie.close
     (tie.spec
     in-range-requires
-    returns
     in-range-requires-2
     in-range-requires-3
-    returns-2
     is-three-requires
-    returns-3
     is-four-requires
+    returns
+    returns-2
+    returns-3
     returns-4
     returns-5)

@@ -5,19 +5,11 @@ use native.Mathlib.Omega.{arith}
 use lib.ListN.{length, getD}
 use borrow.Author.Needs.{needs}
 use Rattle.text.specs.Cells.{pieces, lineAt, next}
-use Rattle.text.specs.Rows.{noKeys, keysIn, cellsFrom, endedAt}
+use Rattle.text.specs.Rows.{noKeys, keysIn, cellsFrom}
 use Rattle.text.proofs.CellLaws.{stop-moved, next-within, next-from, stop-short}
 use Rattle.text.proofs.RowLaws.{left, left-none, left-refused, left-ended, left-goes, ends-at}
 use Rattle.text.proofs.rows.from_left.Statement.{statement}
 use Rattle.text.proofs.rows.from_left.Tie as tie
-use Rattle.text.proofs.rows.from_left.Reads as reads
-use Rattle.text.proofs.rows.from_left.Lts as lts
-use Rattle.text.proofs.cells.by_kind.Reads as by-kind-reads
-use Rattle.text.proofs.rows.ended.Reads as ended-reads
-use Rattle.text.proofs.rows.keys_of.Reads as keys-of-reads
-use Rattle.text.proofs.rows.missing_of.Reads as missing-of-reads
-use Rattle.text.proofs.rows.no_cells.Reads as no-cells-reads
-use Rattle.text.proofs.rows.note.Reads as note-reads
 
 abbrev Inv-loop : tie.InvT-loop
 Inv-loop s i e separator kinds n at₀ missing₀ keys₀ k₀ at missing keys k =
@@ -48,9 +40,8 @@ returns c =
     let l = b .before .before .before in
     let st = l .before .before .before in
     let a = st .args in
-    c .ended .ensures ∙ ap (λ w. endedAt (l .loop .at) (l .loop .k) (l .loop .missing) w (b .by-kind .result)) (c .before .keys-of .ensures)
-    ∙ sym (l .loop .inv .5 ∙ left-refused (a .i) (a .kinds .now) (a .s .now) (a .separator) (l .loop .at) (l .loop .k) (l .loop .missing) (keysIn (l .loop .keys)) (a .e)
-    (stop-moved (st .pre) (l .loop .inv .0)) (b .before .before .loop-test .taken) (b .by-kind .result) (b .by-kind .ensures) (c .before .before .before .if1 .taken))
+    left-refused (a .i) (a .kinds .now) (a .s .now) (a .separator) (l .loop .at) (l .loop .k) (l .loop .missing) (keysIn (l .loop .keys)) (a .e)
+    (stop-moved (st .pre) (l .loop .inv .0)) (b .before .before .loop-test .taken) (b .by-kind .result) (b .by-kind .ensures) (c .before .before .before .if1 .taken) _ _ _ (l .loop .inv .5) (c .ended .ensures) (c .before .keys-of .ensures)
 
 missing-of-requires : tie.Need-missing-of-requires Inv-loop μ-loop
 missing-of-requires c κs = search needs
@@ -94,11 +85,9 @@ returns-2 c =
     let st = l .before .before .before in
     let a = st .args in
     let t = stop-moved (st .pre) (l .loop .inv .0) in
-    let q : b .by-kind .result .at ≡ next (a .separator) (a .s .now) (l .loop .at) = ends-at (a .i) (a .kinds .now) (a .s .now) (a .separator) (l .loop .at) (l .loop .k) (l .loop .missing) (keysIn (l .loop .keys)) (a .e) t (b .before .before .loop-test .taken) (b .by-kind .result) (b .by-kind .ensures) in
     let n = c .before .before .before .before .before in
-    c .ended2 .ensures ∙ ap (λ w. endedAt (l .loop .at) (l .loop .k + 1) (l .loop .missing + n .before .before .missing-of .result) w (b .by-kind .result)) (c .before .keys-of2 .ensures)
-    ∙ sym (l .loop .inv .5 ∙ left-ended (a .i) (a .kinds .now) (a .s .now) (a .separator) (l .loop .at) (l .loop .k) (l .loop .missing) (keysIn (l .loop .keys)) (a .e) t (b .before .before .loop-test .taken) (b .by-kind .result) (b .by-kind .ensures) (n .before .before .before .if1 .left)
-    _ (ap (λ (x : ℕ). l .loop .missing + x) (n .before .before .missing-of .ensures .0)) _ (n .note .ensures .0) (c .before .before .before .if2 .taken))
+    left-ended (a .i) (a .kinds .now) (a .s .now) (a .separator) (l .loop .at) (l .loop .k) (l .loop .missing) (keysIn (l .loop .keys)) (a .e) t (b .before .before .loop-test .taken) (b .by-kind .result) (b .by-kind .ensures) (n .before .before .before .if1 .left)
+    _ (ap (λ (x : ℕ). l .loop .missing + x) (n .before .before .missing-of .ensures .0)) _ (n .note .ensures .0) (c .before .before .before .if2 .taken) _ _ _ (l .loop .inv .5) (c .ended2 .ensures) (c .before .keys-of2 .ensures)
 
 add-at : tie.Need-add-at Inv-loop μ-loop
 add-at c =

@@ -5,8 +5,6 @@ use borrow.Author.Needs.{needs}
 use Rattle.text.proofs.RowLaws.{noted-expocode, noted-stnnbr, noted-castno, noted-other}
 use Rattle.text.proofs.rows.note.Statement.{statement}
 use Rattle.text.proofs.rows.note.Tie as tie
-use Rattle.text.proofs.rows.note.Reads as reads
-use Rattle.text.proofs.rows.note.Lts as lts
 
 returns : tie.Need-returns
 returns c = (noted-other _ _ _ _ _ (λ z. omega arith) (λ z. omega arith) (λ z. omega arith), c .before .pre .1)

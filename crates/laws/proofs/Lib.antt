@@ -1,0 +1,12 @@
+pub mod JoinLaws
+pub mod UngridLaws
+pub mod RowKeepLaws
+pub mod LineKeepLaws
+pub mod WriteLaws
+pub mod AskedLaws
+pub mod MissingLaws
+pub mod LabelLaws
+pub mod ProfileLaws
+pub mod RuleOrderLaws
+pub mod RuleNumberLaws
+pub mod FirstBrokenLaws

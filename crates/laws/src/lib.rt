@@ -1,0 +1,1 @@
+// What follows from the definitions of a file and its calls; no code of its own.
