@@ -51,7 +51,7 @@ module _ (s : List ℕ) (i k : ℕ) (f : i + length (lineAt s i) < length s) (h 
   far = rw e (ap (λ (n : ℕ). cellSpan s i k .start + n) (span-len i (pieces 44 (lineAt s i)) k many ∙ ap length (sym (at-line .text))))
 
   cell-is : slice (p .start) (p .start + p .len) s ≡ getD (pieces 44 (lineAt s i)) k []
-  cell-is = rw far (cell-slice s (p .start)) ∙ ap (λ (q : Span). cellAt 44 s (q .start)) e ∙ at-line .text
+  cell-is = rw far (cell-slice 44 s (p .start)) ∙ ap (λ (q : Span). cellAt 44 s (q .start)) e ∙ at-line .text
 
   name-text : textIn s (p .start) (p .start + p .len) ≡ getD (namesOf (lineAt s i)) k []
   unfolding trim lead back

@@ -38,14 +38,6 @@ pub struct Checked {
     pub missing: u64,
 }
 
-// Where a trimmed cell stands in the file; or the refusal, with the empty place at the file's start.
-pub struct CellPlace {
-    pub number: u64,
-    pub line: u64,
-    pub column: u64,
-    pub place: Span,
-}
-
 // A flag, or the refusal.
 pub struct Flagged {
     pub number: u64,

@@ -4,7 +4,6 @@ use native.Mathlib.Nat.{add-comm, add-sub-cancel-left}
 use native.Mathlib.Omega.{arith}
 use lib.ListN.{take, drop}
 use Rattle.exchange.specs.Records.{stationedOf}
-use Rattle.exchange.proofs.AskLaws.{part-along}
 use Rattle.exchange.proofs.RecordLaws.{answer-place, answer-refusal, answer-room}
 use borrow.Author.Needs.{needs}
 use Rattle.exchange.proofs.station.Statement.{statement}
@@ -36,7 +35,7 @@ returns c =
     let s = a .file .now in
     let x = stationedOf s (a .k) (a .name .now) in
     let p = r .station-place .result .place in (
-      part-along (answer-place s x _ (r .station-place .ensures))
+      rw (← answer-place s x _ (r .station-place .ensures))
           (record { block = refl; offset = add-comm _ _; content = ap (λ (k : ℕ). take k (drop (p .start) s)) (add-sub-cancel-left (p .start) (p .len)) }),
       answer-refusal s x _ (r .station-place .ensures),
     )
