@@ -64,6 +64,14 @@ pub struct ProfileRecord {
     pub date: u64,
 }
 
+// Where a trimmed text stands in the file; or the refusal, with the empty place at the file's start.
+pub struct CellPlace {
+    pub number: u64,
+    pub line: u64,
+    pub column: u64,
+    pub place: Span,
+}
+
 // Where the cells of a measurement stand, with their spaces, and what column they are of; or the refusal.
 pub struct Located {
     pub number: u64,
