@@ -1,2 +1,4 @@
 pub mod DigitLaws
+pub mod SizeLaws
 pub mod TextLaws
+pub mod WriteLaws

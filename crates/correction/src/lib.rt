@@ -1,6 +1,9 @@
 // Corrections to an exchange file: one correction made in the lent file, and one line of a correction list.
 use text::Span;
 
+mod numbers;
+mod writing;
+
 // A correction's answer.
 pub enum Answer {
     Applied,
