@@ -1,37 +1,38 @@
 -- A row and a column asked for.
-use Prim.Native.Nat.{ℕ, zero, suc, _+_, _-_, _≤_, _<_}
+use Prim.Native.Nat.{ℕ, _+_, _-_, _≤_}
 use mathlib.Core.Path.{_≡_, refl, sym, ap, subst, _∙_}
-use mathlib.Core.List.{List, [], _∷_, map}
+use mathlib.Core.List.{List, [], _∷_}
 use mathlib.Core.Bool.{Bool, true, false, cond, _&&_, _||_}
 use native.Mathlib.Omega.{arith}
-use lib.ListN.{length, getD, take, drop}
+use lib.ListN.{length, getD, drop}
 use lib.Seq.{getD-take}
 use lib.Dec.{eqb, leb, ltb}
-use denote.Ref.{RefT}
 use borrow.Author.Tests.{lt-leb, le-leb, ltb-true, ltb-false}
 use Rattle.text.specs.declared.Span.{Span}
 use Rattle.text.specs.declared.Judged.{Judged}
 use Rattle.text.specs.declared.Reading.{Reading}
 use Rattle.text.specs.declared.Reading.the-variants.{Refused}
-use Rattle.text.specs.Spaces.{trimSpan, IsPart}
+use Rattle.text.specs.Spaces.{trimSpan}
 use Rattle.text.specs.Decimals.{Verdict, blank, wrong, outOfRange, good}
 use Rattle.text.specs.Judge.{kindOf, judge, judgedOf, judgedAt}
 use Rattle.text.specs.Reading.{readingOf, readingAt}
 use Rattle.text.specs.Rows.{sizeOf}
 use Rattle.text.proofs.JudgeLaws.{judged-stop}
+use Rattle.text.proofs.SpaceLaws.{span-fits}
 use Rattle.text.specs.Cells.{pieces, lineAt, cellAt, next}
 use Rattle.text.specs.Scans.{Stop}
 use Rattle.text.proofs.CellLaws.{stop-moved}
 use Rattle.exchange.specs.declared.survey.Survey.{Survey}
 use Rattle.exchange.specs.declared.asking.Cell.{Cell}
 use Rattle.exchange.specs.declared.Flagged.{Flagged}
-use Rattle.exchange.specs.Columns.{kindsOf, namesOf}
-use Rattle.exchange.specs.Places.{Table, accepted, refused, outcomeOf}
-use Rattle.exchange.specs.Grid.{starts, lineStart, spanIn, cellSpan}
-use Rattle.exchange.specs.Profiles.{grid}
-use Rattle.exchange.specs.Walks.{linesFrom, sortOf, TableRead}
+use Rattle.exchange.specs.declared.CellPlace.{CellPlace}
+use Rattle.exchange.specs.Columns.{namesOf}
+use Rattle.exchange.specs.Places.{Table, accepted, outcomeOf}
+use Rattle.exchange.specs.Grid.{lineStart, spanIn, cellSpan}
+use Rattle.exchange.specs.Walks.{sortOf, TableRead}
 use Rattle.exchange.specs.SurveyWords.{SurveyRead}
-use Rattle.exchange.specs.Answers.{Asked, found, missed, askedBy, askedOf, kindAt, rowCells, cellText, cellPlace, cellBy, cellOf, refusalBy, readingBy, readingFor, flaggedBy, flaggedOf}
+use Rattle.exchange.specs.Answers.{Asked, found, missed, askedBy, askedOf, kindAt, rowCells, cellText, cellPlace, cellBy, cellOf, refusalBy, placeBy, placeFor, readingBy, readingFor, flaggedBy, flaggedOf}
+use Rattle.exchange.specs.Located.{flagColumn}
 use Rattle.exchange.specs.AskWords.{CellRead, AskedRead}
 use Rattle.exchange.proofs.GridLaws.{RowAt, row-at, SpanAt, span-at}
 
@@ -127,19 +128,22 @@ module _ (s : List ℕ) (r c : ℕ) (v : Survey) (w : SurveyRead s v) (z : v .nu
   pub ask-span : SpanAt s (lineStart s (v .data) (r - 1)) (lineStart s (v .data) (r - 1) + length (lineAt s (lineStart s (v .data) (r - 1)))) (c - 1)
   ask-span = span-at (c - 1) s _ _ (ask-row .feed) (omega (arith, within .column, within .columns, w .on z .2 .many, ask-row .many))
 
-  pub ask-found : (x : Cell) (at e : ℕ) (p : Span) → at ≡ lineStart s (v .data) (r - 1) → e ≡ at + length (lineAt s at) → p ≡ cellSpan s at (c - 1)
-      → x .kind ≡ getD (v .kinds) (c - 1) 0 → x .start ≡ p .start → x .len ≡ p .len → x .feed ≡ e → (x .number ≡ 0) → x .line ≡ 0 → x .column ≡ 0 → AskedRead s r c x
-  unfolding askedOf
-  ask-found x at e p ea ee ep ek es el ef en eln eco = record { stop = λ y. absurd (y en); on = λ y. (t .0, cell) }
+  pub ask-found : (at e : ℕ) (p : Span) → at ≡ lineStart s (v .data) (r - 1) → e ≡ at + length (lineAt s at) → p ≡ cellSpan s at (c - 1)
+      → AskedRead s r c (record { number = 0; line = 0; column = 0; kind = getD (v .kinds) (c - 1) 0; start = p .start; len = p .len; at = at; feed = e; flag = getD (v .flags) (c - 1) 0; names = v .names })
+  unfolding askedOf flagColumn
+  ask-found at e p ea ee ep = record { stop = λ y. absurd (y refl); on = λ y. (t .0, cell) }
     where
+      x : Cell
+      x = record { number = 0; line = 0; column = 0; kind = getD (v .kinds) (c - 1) 0; start = p .start; len = p .len; at = at; feed = e; flag = getD (v .flags) (c - 1) 0; names = v .names }
+
       t : (t : Table) × (outcomeOf s ≡ accepted t (v .rows)) × TableRead s t v × (t .sort ≡ sortOf (v .kind)) × (t .names ≡ namesOf (lineAt s (v .names)))
       t = w .on z
 
       i : ℕ
       i = lineStart s (v .data) (r - 1)
 
-      place : cellSpan s i (c - 1) ≡ cellPlace (t .0) s r c
-      place = ap (λ (ts : List (List ℕ)). spanIn i ts (c - 1)) (ask-row .cells) ∙ ap (λ (k : ℕ). spanIn k (rowCells (t .0) s r) (c - 1)) (ask-row .place)
+      place : (k : ℕ) → cellSpan s i (k - 1) ≡ cellPlace (t .0) s r k
+      place k = ap (λ (ts : List (List ℕ)). spanIn i ts (k - 1)) (ask-row .cells) ∙ ap (λ (j : ℕ). spanIn j (rowCells (t .0) s r) (k - 1)) (ask-row .place)
 
       span : p ≡ cellSpan s i (c - 1)
       span = ep ∙ ap (λ (k : ℕ). cellSpan s k (c - 1)) ea
@@ -147,8 +151,8 @@ module _ (s : List ℕ) (r c : ℕ) (v : Survey) (w : SurveyRead s v) (z : v .nu
       far : e ≡ i + length (lineAt s i)
       far = ee ∙ ap (λ (k : ℕ). k + length (lineAt s k)) ea
 
-      start-is : x .start ≡ cellSpan s i (c - 1) .start
-      start-is = es ∙ ap (λ (q : Span). q .start) span
+      start-is : p .start ≡ cellSpan s i (c - 1) .start
+      start-is = ap (λ (q : Span). q .start) span
 
       stop-is : Stop 44 s (cellSpan s i (c - 1) .start) (i + length (lineAt s i))
       stop-is = stop-moved (ask-row .feed) (ask-span .inside)
@@ -156,17 +160,27 @@ module _ (s : List ℕ) (r c : ℕ) (v : Survey) (w : SurveyRead s v) (z : v .nu
       kind-is : getD (v .kinds) (c - 1) 0 ≡ kindAt (t .0) c
       kind-is = sym (getD-take (v .columns) (v .kinds) (c - 1) 0 (omega (arith, within .column, within .columns))) ∙ ap (λ (ks : List ℕ). getD ks (c - 1) 0) (t .2 .kinds)
 
+      flag-is : getD (v .flags) (c - 1) 0 ≡ flagColumn (t .0) c
+      flag-is = sym (getD-take (v .columns) (v .flags) (c - 1) 0 (omega (arith, within .column, within .columns))) ∙ ap (λ (fs : List ℕ). getD fs (c - 1) 0) (t .2 .flags)
+
+      there : Inside r (v .rows) c (length (t .0 .names))
+      there = subst (λ (m : ℕ). Inside r (v .rows) c m) (t .2 .many) within
+
       cell : CellRead s r c (t .0) x
       cell = record {
-        asked = ap (askedBy r c) (t .1) ∙ asked-inside r (v .rows) c (t .0) (subst (λ (m : ℕ). Inside r (v .rows) c m) (t .2 .many) within);
-        line = eln;
-        column = eco;
-        kind = ek ∙ kind-is;
-        start = start-is ∙ ap (λ (q : Span). q .start) place;
-        len = el ∙ ap (λ (q : Span). q .len) (span ∙ place);
-        stop = rw (start-is, ef, far) stop-is;
+        asked = ap (askedBy r c) (t .1) ∙ asked-inside r (v .rows) c (t .0) there;
+        kind = kind-is;
+        start = start-is ∙ ap (λ (q : Span). q .start) (place c);
+        len = ap (λ (q : Span). q .len) (span ∙ place c);
+        stop = rw (start-is, far) stop-is;
         text = ap (cellAt 44 s) start-is ∙ ask-span .text ∙ ap (λ (ts : List (List ℕ)). getD ts (c - 1) []) (ask-row .cells);
-        room = omega (arith, start-is, el, ap (λ (q : Span). q .len) span, ask-span .room, ask-row .feed .room);
+        room = omega (arith, start-is, ap (λ (q : Span). q .len) span, ask-span .room, ask-row .feed .room);
+        within = (there .column, there .columns);
+        row = rw (ea, far) (ask-row .feed);
+        cells = λ k. ap (λ (j : ℕ). cellSpan s j (k - 1)) ea ∙ place k;
+        flag = flag-is;
+        names = t .4;
+        fed = w .fed z;
       }
 
 -- ---- the calls
@@ -193,12 +207,9 @@ module _ (s : List ℕ) (r c : ℕ) (x : Cell) (w : AskedRead s r c x) where
     unfolding flaggedOf
     call-flag = sym (ap (flaggedBy s r c) (w .stop z))
 
-    pub call-place : record { start = 0; len = 0 } ≡ cellOf s r c
-    unfolding cellOf
-    call-place = sym (ap (cellBy s r c) (w .stop z))
-
-    pub call-refusal : (x .number ∷ x .line ∷ x .column ∷ []) ≡ refusalBy (askedOf s r c)
-    call-refusal = sym (ap refusalBy (w .stop z))
+    pub call-place : _≡_ {A = CellPlace} (record { number = x .number; line = x .line; column = x .column; place = record { start = 0; len = 0 } }) (placeFor s r c)
+    unfolding placeFor cellOf
+    call-place = sym (ap (λ (a : Asked). placeBy (cellBy s r c a) a) (w .stop z))
 
   module _ (z : x .number ≡ 0) where
     cell : CellRead s r c (w .on z .0) x
@@ -225,13 +236,32 @@ module _ (s : List ℕ) (r c : ℕ) (x : Cell) (w : AskedRead s r c x) where
     unfolding flaggedOf
     read-other b = rw (cell .asked) (rw (ap (λ (k : ℕ). eqb k 4 || eqb k 5) (sym (cell .kind)) ∙ b))
 
-    pub read-refusal : (x .number ∷ x .line ∷ x .column ∷ []) ≡ refusalBy (askedOf s r c)
-    read-refusal = rw (z, cell .line, cell .column) (sym (ap refusalBy (cell .asked)))
+    pub read-place : (p : Span) → p ≡ trimSpan s (x .start) (x .start + x .len) → _≡_ {A = CellPlace} (record { number = 0; line = 0; column = 0; place = p }) (placeFor s r c)
+    unfolding placeFor cellOf
+    read-place p e = rw e (rw (cell .asked, cell .start, cell .len))
 
-    pub read-place : trimSpan s (x .start) (x .start + x .len) ≡ cellOf s r c
-    unfolding cellOf
-    read-place = rw (cell .asked, cell .start, cell .len)
+-- ---- the place of a cell, which lies in the file
+module _ (s : List ℕ) (r c : ℕ) (p : CellPlace) (e : p ≡ placeFor s r c) where
+  pub place-is : p .place ≡ cellOf s r c
+  unfolding placeFor
+  place-is = ap (λ (q : CellPlace). q .place) e ∙ go (askedOf s r c)
+    where
+      go : (a : Asked) → placeBy (cellOf s r c) a .place ≡ cellOf s r c
+      go (found t) = refl
+      go (missed a b d) = refl
 
--- a part of a file at a place that is another's
-pub part-along : {s r : RefT (List ℕ)} {p q : Span} → p ≡ q → IsPart s r p → IsPart s r q
-part-along {s} {r} e h = subst (λ (x : Span). IsPart s r x) e h
+  pub place-refusal : (p .number ∷ p .line ∷ p .column ∷ []) ≡ refusalBy (askedOf s r c)
+  unfolding placeFor
+  place-refusal = ap (λ (q : CellPlace). q .number ∷ q .line ∷ q .column ∷ []) e ∙ go (askedOf s r c)
+    where
+      go : (a : Asked) → let q = placeBy (cellOf s r c) a in (q .number ∷ q .line ∷ q .column ∷ []) ≡ refusalBy a
+      go (found t) = refl
+      go (missed a b d) = refl
+
+  pub place-fits : p .place .start + p .place .len ≤ length s
+  unfolding cellOf
+  place-fits = rw place-is (go (askedOf s r c))
+    where
+      go : (a : Asked) → cellBy s r c a .start + cellBy s r c a .len ≤ length s
+      go (found t) = span-fits s (cellPlace t s r c .start) (cellPlace t s r c .start + cellPlace t s r c .len) _ refl
+      go (missed a b d) = omega arith

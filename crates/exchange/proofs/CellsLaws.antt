@@ -10,38 +10,22 @@ use native.Mathlib.Omega.{arith}
 use lib.ListN.{length, getD, take, drop, set, length-take, length-drop, length-set, length-map, List·getD-map}
 use lib.Seq.{slice, take-suc, take-take, drop-drop, getD-drop, getD-set-same, getD-set-other}
 use lib.Dec.{eqb}
-use borrow.Author.Tests.{eq-eqb, ne-eqb, eqb-true}
+use borrow.Author.Tests.{ne-eqb}
 use borrow.Author.Count.{below-more}
 use Rattle.text.specs.Cells.{firstPiece, laterPieces, pieces, lineAt, cellAt, next}
 use Rattle.text.specs.Spaces.{lead, back, trim}
 use Rattle.text.specs.Scans.{Stop}
-use Rattle.text.proofs.CellLaws.{line-in, line-end, next-in, next-end, next-from, next-within, next-parts, end-feed, pieces-last, pieces-more}
+use Rattle.text.proofs.CellLaws.{line-in, line-end, next-from, next-within, next-parts, pieces-last, pieces-more}
 use Rattle.text.proofs.SpaceLaws.{slice-take, span-bytes}
 use Rattle.exchange.specs.Columns.{namesOf}
 use Rattle.exchange.specs.Walks.{textIn, namesAt}
 use Rattle.exchange.specs.ColumnWords.{startOf, Ends, Placed}
+use Rattle.exchange.proofs.RunLaws.{line-feed}
 use Rattle.exchange.proofs.NameLaws.{names-set}
 
 -- ---- the line feed at e
-feed-of : (xs : List ℕ) → length (firstPiece 10 xs) < length xs → getD xs (length (firstPiece 10 xs)) 0 ≡ 10
-unfolding firstPiece
-feed-of [] h = absurd (not-suc-le-zero h)
-feed-of (x ∷ xs) h = go (eqb x 10) refl (feed-of xs) h
-  where
-    go : (b : Bool) → eqb x 10 ≡ b → (length (firstPiece 10 xs) < length xs → getD xs (length (firstPiece 10 xs)) 0 ≡ 10)
-        → length (cond b [] (x ∷ firstPiece 10 xs)) < suc (length xs) → getD (x ∷ xs) (length (cond b [] (x ∷ firstPiece 10 xs))) 0 ≡ 10
-    go true e f h = eqb-true x 10 e
-    go false e f h = f (le-of-suc-le-suc h)
-
 pub ends-stop : {s : List ℕ} {i e : ℕ} → Ends s i e → Stop 44 s i e
-ends-stop {s} {i} {e} t =
-    let l : length (lineAt s i) < length (drop i s) = rw length-drop (omega (arith, t .room, t .far)) in
-    record {
-      inside = omega (arith, t .far);
-      room = t .room;
-      feed = ap (λ (p : ℕ). getD s p 0) (t .far) ∙ sym (getD-drop i s (length (lineAt s i)) 0) ∙ feed-of (drop i s) l;
-      parts = refl;
-    }
+ends-stop {s} {i} {e} t = record { inside = omega (arith, t .far); room = t .room; feed = ap (λ (p : ℕ). getD s p 0) (t .far) ∙ line-feed s i (omega (arith, t .room, t .far)); parts = refl }
 
 -- no byte before it is a line feed
 pub ends-before : {s : List ℕ} {i e : ℕ} → Ends s i e → i < e → getD s i 0 ≡ 10 → ⊥
@@ -64,19 +48,6 @@ pub ends-moved : {s : List ℕ} {i e j : ℕ} → Ends s i e → i ≤ j → j �
 ends-moved {s} {i} {e} {j} t h k =
     let q : i + (j - i) ≡ j = omega arith in
     subst (λ (p : ℕ). Ends s p e) q (ends-on (j - i) t (omega arith))
-
--- ---- where a cell ends
-module _ (s : List ℕ) (i e : ℕ) (t : Ends s i e) where
-  pub cell-comma : i < e → getD s i 0 ≡ 44 → next 44 s i ≡ i
-  cell-comma h f = next-end s i (omega (arith, t .room)) 44 (rw (eq-eqb (getD s i 0) 44 f))
-
-  pub cell-on : i < e → (getD s i 0 ≡ 44 → ⊥) → next 44 s i ≡ next 44 s (i + 1)
-  cell-on h f = next-in s i (omega (arith, t .room)) 44 (rw (ne-eqb (getD s i 0) 44 f) (ne-eqb (getD s i 0) 10 (ends-before t h)))
-
-  pub cell-feed : e ≤ i → next 44 s i ≡ i
-  cell-feed h =
-      let q : i ≡ e = omega (arith, t .far) in
-      next-end s i (omega (arith, t .room)) 44 (end-feed 44 (getD s i 0) (rw q (ends-stop t .feed)))
 
 -- ---- a list from place n on
 module _ {A : Type 0} (l : List A) (n : ℕ) (x : A) (r : List A) (e : drop n l ≡ x ∷ r) where

@@ -14,3 +14,4 @@ pub mod SurveyLaws
 pub mod PlaceLaws
 pub mod GridLaws
 pub mod AskLaws
+pub mod LocateLaws

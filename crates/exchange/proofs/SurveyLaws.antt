@@ -182,10 +182,10 @@ module _ (v : Survey) (n l c : ℕ) (e : (v .number ≡ n) × (v .line ≡ l) ×
 
   pub table-refused : {P : Type 0} (k : Sort) (s : List ℕ) (i m : ℕ) → ((hs : List Header) → run m (names k hs) (linesFrom s i) ≡ refused n l c)
       → NamesRead k s i m v × (v .number ≡ 0 → P)
-  table-refused k s i m f = (record { stop = λ hs y. shown _ (f hs); on = λ hs y. absurd (never y); table = λ hs y. absurd (never y); at = λ y. absurd (never y) }, λ y. absurd (never y))
+  table-refused k s i m f = (record { stop = λ hs y. shown _ (f hs); on = λ hs y. absurd (never y); table = λ hs y. absurd (never y); at = λ y. absurd (never y); fed = λ y. absurd (never y) }, λ y. absurd (never y))
 
   pub survey-refused : (s : List ℕ) → outcomeOf s ≡ refused n l c → SurveyRead s v
-  survey-refused s f = record { stop = λ y. shown _ f; on = λ y. absurd (never y) }
+  survey-refused s f = record { stop = λ y. shown _ f; on = λ y. absurd (never y); fed = λ y. absurd (never y) }
 
 -- of a table that is read to its end
 pub table-told : (k : Sort) (hs : List Header) (s : List ℕ) (i l kind headers : ℕ) (c : Columns) (v : Survey) → ColumnsRead k (lineAt s i) c → c .number ≡ 0
@@ -213,4 +213,5 @@ survey-from s hs i l kind v o h f x g = record {
     ap sortOf (sym (g z)),
     ap (λ (j : ℕ). namesOf (lineAt s j)) (sym (x .at z)),
   );
+  fed = λ z. rw (x .at z) (x .fed z);
 }

@@ -16,6 +16,7 @@ use Rattle.exchange.specs.declared.FileKind.{FileKind}
 use Rattle.exchange.specs.declared.FileKind.the-variants.{Unknown, Bottle, Ctd}
 use Rattle.exchange.specs.declared.Checked.{Checked}
 use Rattle.exchange.specs.declared.Flagged.{Flagged}
+use Rattle.exchange.specs.declared.CellPlace.{CellPlace}
 use Rattle.exchange.specs.Columns.{Sort, bottle, ctd, kindsOf}
 use Rattle.exchange.specs.Places.{Table, Outcome, accepted, refused, outcomeOf}
 use Rattle.exchange.specs.Grid.{starts, spanIn}
@@ -98,6 +99,14 @@ cellOf f r c = cellBy f r c (askedOf f r c)
 abbrev pub refusalBy : Asked → List ℕ
 refusalBy (found t) = 0 ∷ 0 ∷ 0 ∷ []
 refusalBy (missed a b d) = a ∷ b ∷ d ∷ []
+
+-- the place of a cell handed out and its refusal in one
+abbrev pub placeBy : Span → Asked → CellPlace
+placeBy p (found t) = record { number = 0; line = 0; column = 0; place = p }
+placeBy p (missed a b d) = record { number = a; line = b; column = d; place = p }
+
+unfoldable pub placeFor : List ℕ → ℕ → ℕ → CellPlace
+placeFor f r c = placeBy (cellOf f r c) (askedOf f r c)
 
 -- a decimal's reading: of a measured, LATITUDE, LONGITUDE or DEPTH column; 22 for another
 abbrev pub readingBy : List ℕ → ℕ → ℕ → Asked → Reading

@@ -1,5 +1,5 @@
 -- The words of the contracts of the survey's inner functions.
-use Prim.Native.Nat.{ℕ, _+_, _≤_}
+use Prim.Native.Nat.{ℕ, _+_, _≤_, _<_}
 use mathlib.Core.Path.{_≡_}
 use mathlib.Core.List.{List, map}
 use lib.ListN.{length, take}
@@ -56,8 +56,10 @@ pub record NamesRead (k : Sort) (s : List ℕ) (i l : ℕ) (v : Survey) : Type 0
   pub on : (hs : List Header) → v .number ≡ 0 → run l (names k hs) (linesFrom s i) ≡ accepted (tableOf k hs s i l) (v .rows)
   pub table : (hs : List Header) → v .number ≡ 0 → 1 ≤ l → StartsAt s l i → TableRead s (tableOf k hs s i l) v
   pub at : v .number ≡ 0 → v .names ≡ i
+  pub fed : v .number ≡ 0 → i + length (lineAt s i) < length s
 
 -- the whole file: the table that the check ends with
 pub record SurveyRead (s : List ℕ) (v : Survey) : Type 0 where
   pub stop : (v .number ≡ 0 → ⊥) → outcomeOf s ≡ refused (v .number) (v .line) (v .column)
   pub on : v .number ≡ 0 → (t : Table) × (outcomeOf s ≡ accepted t (v .rows)) × TableRead s t v × (t .sort ≡ sortOf (v .kind)) × (t .names ≡ namesOf (lineAt s (v .names)))
+  pub fed : v .number ≡ 0 → v .names + length (lineAt s (v .names)) < length s

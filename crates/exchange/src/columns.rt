@@ -4,7 +4,7 @@ ghost use mathlib.Core.Bool.{cond};
 ghost use Prim.Native.Nat.{_+_, _≤_, _<_};
 ghost use mathlib.Core.List.{[]};
 ghost use lib.ListN.{length, getD};
-ghost use Rattle.text.specs.Cells.{lineAt, pieces, next};
+ghost use Rattle.text.specs.Cells.{lineAt, pieces};
 ghost use Rattle.text.specs.Names.{beginsCtd};
 ghost use Rattle.exchange.specs.declared.names.NameFault.the-variants.{Clean};
 ghost use Rattle.exchange.specs.Faults.{hasAll};
@@ -17,6 +17,7 @@ use crate::names::first_fault;
 use crate::names::has_station;
 use crate::names::name_at;
 use crate::names::place_of;
+use crate::places::cell_end;
 
 // The most columns.
 pub const MOST_COLUMNS: usize = 256;
@@ -36,21 +37,6 @@ pub struct Columns {
     pub count: usize,
     pub kinds: [u8; 256],
     pub flags: [u16; 256],
-}
-
-// Where the cell ends that goes on at i, in a line that ends at e.
-fn cell_end(s: &[u8], i: usize, e: usize) -> usize
-    requires { ⌜ Ends (now s) i e ⌝ }
-    ensures { λ r. ⌜ r ≡ next 44 (now (s .entry)) i ⌝ }
-{
-    let mut p = i;
-    while p < e {
-        if s[p] == 44 {
-            return p;
-        }
-        p += 1;
-    }
-    p
 }
 
 // The cells of the line from `at` to its line feed at e.

@@ -1,7 +1,8 @@
 // A WHP-Exchange file: its lines, places, headers, columns and rows; the check, and the calls that read.
 ghost use mathlib.Core.Path.{_≡_};
 ghost use Rattle.text.specs.Spaces.{IsPart};
-ghost use Rattle.exchange.specs.Answers.{checkedOf, cellOf, refusalBy, askedOf, readingFor, flaggedOf};
+ghost use Rattle.exchange.specs.Answers.{checkedOf, cellOf, refusalBy, askedOf, placeFor, readingFor, flaggedOf};
+ghost use Rattle.exchange.specs.Located.{locatedOf};
 use text::Reading;
 use text::Span;
 
@@ -32,6 +33,14 @@ pub struct Checked {
     pub rows: u64,
     pub profiles: u64,
     pub missing: u64,
+}
+
+// Where a trimmed cell stands in the file; or the refusal, with the empty place at the file's start.
+pub struct CellPlace {
+    pub number: u64,
+    pub line: u64,
+    pub column: u64,
+    pub place: Span,
 }
 
 // A flag, or the refusal.
@@ -113,17 +122,37 @@ pub fn check(file: &[u8]) -> Checked
     }
 }
 
+// The place of a trimmed cell.
+pub fn cell_place(file: &[u8], row: u64, column: u64) -> CellPlace
+    ensures { λ r. ⌜ r ≡ placeFor (now (file .entry)) row column ⌝ }
+{
+    let a = asking::ask(file, row, column);
+    if a.number != 0 {
+        return CellPlace {
+            number: a.number,
+            line: a.line,
+            column: a.column,
+            place: Span { start: 0, len: 0 },
+        };
+    }
+    CellPlace {
+        number: 0,
+        line: 0,
+        column: 0,
+        place: text::trim_span(file, a.start, a.start + a.len),
+    }
+}
+
 // The trimmed cell, a part of the file itself; refusal gets number, line and column.
 pub fn cell<'a>(file: &'a [u8], row: u64, column: u64, refusal: &mut [u64; 3]) -> &'a [u8]
     ensures { λ r. ⌜ IsPart (file .entry) r (cellOf (now (file .entry)) row column) ⌝ }
     ensures { λ r. ⌜ now (refusal .exit) ≡ refusalBy (askedOf (now (file .entry)) row column) ⌝ }
 {
-    let a = asking::ask(file, row, column);
-    *refusal = [a.number, a.line, a.column];
-    if a.number != 0 {
-        return &file[..0];
-    }
-    text::trimmed(file, a.start, a.start + a.len)
+    let p = cell_place(file, row, column);
+    *refusal = [p.number, p.line, p.column];
+    let start = p.place.start;
+    let end = start + p.place.len;
+    &file[start..end]
 }
 
 // The reading of a decimal column.
@@ -168,5 +197,37 @@ pub fn flag(file: &[u8], row: u64, column: u64) -> Flagged
         line: 0,
         column: 0,
         flag: 0,
+    }
+}
+
+// Where the cells of the measurement at a row and column stand, for the correcting part.
+pub fn locate(file: &[u8], row: u64, column: u64) -> Located
+    ensures { λ r. ⌜ r ≡ locatedOf (now (file .entry)) row column ⌝ }
+{
+    let a = asking::ask(file, row, column);
+    if a.number != 0 {
+        return Located {
+            number: a.number,
+            line: a.line,
+            column: a.column,
+            value: Span { start: 0, len: 0 },
+            measured: false,
+            ctd: false,
+            flagged: false,
+            flag: Span { start: 0, len: 0 },
+        };
+    }
+    Located {
+        number: 0,
+        line: 0,
+        column: 0,
+        value: Span {
+            start: a.start,
+            len: a.len,
+        },
+        measured: a.kind == 0,
+        ctd: asking::is_ctd(file, a.names, (column - 1) as usize),
+        flagged: 0 < a.flag,
+        flag: asking::place_in(file, a.at, a.feed, a.flag as usize),
     }
 }

@@ -1,40 +1,40 @@
-use mathlib.Core.Path.{_≡_, refl, sym, ap, subst, _∙_}
-use native.Mathlib.Nat.{add-zero}
+-- The part of the file at the cell's place.
+use Prim.Native.Nat.{ℕ}
+use mathlib.Core.Path.{refl, ap}
+use native.Mathlib.Nat.{add-comm, add-sub-cancel-left}
 use native.Mathlib.Omega.{arith}
-use Rattle.text.specs.declared.Span.{Span}
-use Rattle.text.specs.Spaces.{IsPart}
-use Rattle.exchange.proofs.AskLaws.{call-place, call-refusal, read-place, read-refusal, part-along}
+use lib.ListN.{take, drop}
+use Rattle.exchange.proofs.AskLaws.{place-is, place-refusal, place-fits}
 use borrow.Author.Needs.{needs}
 use Rattle.exchange.proofs.cell.Statement.{statement}
 use Rattle.exchange.proofs.cell.Tie as tie
 
-ask-requires : tie.Need-ask-requires
-ask-requires c κs = search needs
+cell-place-requires : tie.Need-cell-place-requires
+cell-place-requires c κs = search needs
 
-slice-aggregate-result : tie.Need-slice-aggregate-result
-slice-aggregate-result c = search needs
+add-end : tie.Need-add-end
+add-end c = omega (arith, place-fits _ _ _ _ (c .before .before .cell-place .ensures))
+
+sub-result : tie.Need-sub-result
+sub-result c = search needs
+
+part-result-start : tie.Need-part-result-start
+part-result-start c = search needs
+
+part-result-end : tie.Need-part-result-end
+part-result-end c = place-fits _ _ _ _ (c .before .before .cell-place .ensures)
 
 returns : tie.Need-returns
 returns c =
-    let a = c .before .before .before .before in (
-      part-along (call-place _ _ _ (a .ask .result) (a .ask .ensures) (c .before .if1 .taken)) (record { block = refl; offset = sym (add-zero _); content = refl }),
-      call-refusal _ _ _ (a .ask .result) (a .ask .ensures) (c .before .if1 .taken),
-    )
-
-add-trimmed : tie.Need-add-trimmed
-add-trimmed c = let a = c .before .before .before .before in omega (arith, a .ask .ensures .on (c .before .if1 .left) .1 .room)
-
-trimmed-requires : tie.Need-trimmed-requires
-trimmed-requires c κs = search needs
-
-returns-2 : tie.Need-returns-2
-returns-2 c =
-    let a = c .before .before .before .before .before in (
-      part-along (read-place _ _ _ (a .ask .result) (a .ask .ensures) (c .before .before .if1 .left)) (c .trimmed .ensures),
-      read-refusal _ _ _ (a .ask .result) (a .ask .ensures) (c .before .before .if1 .left),
+    let s = c .before .before .before .before .before .args .file in
+    let p = c .before .before .before .cell-place .result in
+    let e = c .before .before .before .cell-place .ensures in (
+      rw (← place-is _ _ _ p e)
+          (record { block = refl; offset = add-comm _ _; content = ap (λ (k : ℕ). take k (drop (p .place .start) (s .now))) (add-sub-cancel-left (p .place .start) (p .place .len)) }),
+      place-refusal _ _ _ p e,
     )
 
 pub cell-spec : {M : Type 1} → statement M
 cell-spec =
     tie.close
-    (tie.spec ask-requires slice-aggregate-result returns add-trimmed trimmed-requires returns-2)
+    (tie.spec cell-place-requires add-end sub-result part-result-start part-result-end returns)

@@ -1,20 +1,9 @@
-use Prim.Native.Nat.{ℕ, _+_, _-_}
-use mathlib.Core.Path.{_≡_, refl, sym, _∙_, ap, subst}
+-- The file is checked, then the row's line and the column's cell are found.
 use native.Mathlib.Omega.{arith}
-use lib.ListN.{length}
-use Rattle.text.specs.Cells.{lineAt}
-use Rattle.text.specs.Scans.{Stop}
 use Rattle.exchange.proofs.AskLaws.{inside-by, ask-refused, ask-missed, ask-row, ask-found}
 use borrow.Author.Needs.{needs}
 use Rattle.exchange.proofs.asking.ask.Statement.{statement}
 use Rattle.exchange.proofs.asking.ask.Tie as tie
-use Rattle.exchange.proofs.asking.ask.Reads as reads
-use Rattle.exchange.proofs.asking.ask.Lts as lts
-use Rattle.exchange.proofs.asking.missed.Reads as missed-reads
-use Rattle.exchange.proofs.places.cell_span.Reads as cell-span-reads
-use Rattle.exchange.proofs.places.line_end.Reads as line-end-reads
-use Rattle.exchange.proofs.places.line_start.Reads as line-start-reads
-use Rattle.exchange.proofs.survey.survey_of.Reads as survey-of-reads
 
 survey-of-requires : tie.Need-survey-of-requires
 survey-of-requires c κs = search needs
@@ -35,35 +24,55 @@ sub-c : tie.Need-sub-c
 sub-c c = let v = c .before .before .before .before in let a = v .before .before .args in inside-by (a .row) (v .survey-of .result .rows) (a .column) (v .survey-of .result .columns) (c .if2 .left) .column
 
 sub-line-start : tie.Need-sub-line-start
-sub-line-start c = let v = c .before .before .before .before .before in let a = v .before .before .args in inside-by (a .row) (v .survey-of .result .rows) (a .column) (v .survey-of .result .columns) (c .before .if2 .left) .row
+sub-line-start c =
+    let v = c .before .before .before .before .before .before in
+    let a = v .before .before .args in
+    inside-by (a .row) (v .survey-of .result .rows) (a .column) (v .survey-of .result .columns) (c .before .before .if2 .left) .row
 
 line-start-requires : tie.Need-line-start-requires
-line-start-requires c κs = let v = c .before .before .before .before .before in v .survey-of .ensures .on (c .before .before .before .if1 .left) .2 .inside
+line-start-requires c κs = let v = c .before .before .before .before .before .before in v .survey-of .ensures .on (c .before .before .before .before .if1 .left) .2 .inside
 
 line-end-requires : tie.Need-line-end-requires
 line-end-requires c κs = search needs
 
 cell-span-requires : tie.Need-cell-span-requires
 cell-span-requires c κs =
-    let v = c .before .before .before .before .before .before .before in
+    let g = c .before .before in
+    let v = g .before .before .before .before .before .before in
     let a = v .before .before .args in
-    let r = ask-row (a .file .now) (a .row) (a .column) (v .survey-of .result) (v .survey-of .ensures) (c .before .before .before .before .before .if1 .left) (c .before .before .before .if2 .left) in
-    let e = c .before .line-start .ensures in
-    rw (c .line-end .ensures, e) (r .feed)
+    let r = ask-row (a .file .now) (a .row) (a .column) (v .survey-of .result) (v .survey-of .ensures) (g .before .before .before .before .if1 .left) (g .before .before .if2 .left) in
+    rw (c .line-end .ensures, c .before .line-start .ensures) (r .feed)
 
-array-read-t22 : tie.Need-array-read-t22
-array-read-t22 c =
-    let v = c .before .before .before .before .before .before .before .before in
+array-read-t23 : tie.Need-array-read-t23
+array-read-t23 c =
+    let g = c .before .before .before in
+    let v = g .before .before .before .before .before .before in
     let a = v .before .before .args in
-    let i = inside-by (a .row) (v .survey-of .result .rows) (a .column) (v .survey-of .result .columns) (c .before .before .before .before .if2 .left) in
-    omega (arith, i .column, i .columns, v .survey-of .ensures .on (c .before .before .before .before .before .before .if1 .left) .2 .few)
+    let i = inside-by (a .row) (v .survey-of .result .rows) (a .column) (v .survey-of .result .columns) (g .before .before .if2 .left) in
+    omega (arith, i .column, i .columns, v .survey-of .ensures .on (g .before .before .before .before .if1 .left) .2 .few)
+
+mul-t20 : tie.Need-mul-t20
+mul-t20 c =
+    let g = c .before .before .before in
+    let v = g .before .before .before .before .before .before in
+    let a = v .before .before .args in
+    let i = inside-by (a .row) (v .survey-of .result .rows) (a .column) (v .survey-of .result .columns) (g .before .before .if2 .left) in
+    omega (arith, i .column, i .columns, v .survey-of .ensures .on (g .before .before .before .before .if1 .left) .2 .few)
+
+array-read-t26 : tie.Need-array-read-t26
+array-read-t26 c =
+    let g = c .before .before .before in
+    let v = g .before .before .before .before .before .before in
+    let a = v .before .before .args in
+    let i = inside-by (a .row) (v .survey-of .result .rows) (a .column) (v .survey-of .result .columns) (g .before .before .if2 .left) in
+    omega (arith, i .column, i .columns, v .survey-of .ensures .on (g .before .before .before .before .if1 .left) .2 .few)
 
 returns-3 : tie.Need-returns-3
 returns-3 c =
-    let v = c .before .before .before .before .before .before .before .before in
-    let a = v .before .before .args in
-    ask-found (a .file .now) (a .row) (a .column) (v .survey-of .result) (v .survey-of .ensures) (c .before .before .before .before .before .before .if1 .left) (c .before .before .before .before .if2 .left)
-    _ (c .before .before .line-start .result) (c .before .line-end .result) (c .cell-span .result) (c .before .before .line-start .ensures) (c .before .line-end .ensures) (c .cell-span .ensures) refl refl refl refl refl refl refl
+    let g = c .before .before .before in
+    let v = g .before .before .before .before .before .before in
+    ask-found _ _ _ (v .survey-of .result) (v .survey-of .ensures) (g .before .before .before .before .if1 .left) (g .before .before .if2 .left) _ _ _
+    (c .before .before .line-start .ensures) (c .before .line-end .ensures) (c .cell-span .ensures)
 
 pub ask-spec : {M : Type 1} → statement M
 ask-spec =
@@ -79,5 +88,7 @@ ask-spec =
     line-start-requires
     line-end-requires
     cell-span-requires
-    array-read-t22
+    array-read-t23
+    mul-t20
+    array-read-t26
     returns-3)

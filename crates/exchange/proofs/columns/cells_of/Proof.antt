@@ -3,7 +3,7 @@ use Prim.Native.Nat.{_-_, _≤_}
 use mathlib.Core.Path.{_≡_, refl}
 use native.Mathlib.Omega.{arith}
 use borrow.Author.Needs.{needs}
-use Rattle.exchange.proofs.CellsLaws.{Walked, walked-none, walked-more, cell-within, placed-more, walked-last, walked-on}
+use Rattle.exchange.proofs.CellsLaws.{ends-stop, Walked, walked-none, walked-more, cell-within, placed-more, walked-last, walked-on}
 use Rattle.exchange.proofs.columns.cells_of.Statement.{statement}
 use Rattle.exchange.proofs.columns.cells_of.Tie as tie
 
@@ -17,7 +17,7 @@ loop-holds : tie.Need-loop-holds Inv-loop μ-loop
 loop-holds c = (omega arith, walked-none (c .before .args .s .now) (c .before .args .at) (c .before .args .e) _ _ (c .before .pre) refl refl)
 
 cell-end-requires : tie.Need-cell-end-requires Inv-loop μ-loop
-cell-end-requires c κs = c .before .loop .inv .1 .ends-at
+cell-end-requires c κs = ends-stop (c .before .loop .inv .1 .ends-at)
 
 mul-starts : tie.Need-mul-starts Inv-loop μ-loop
 mul-starts c = omega arith
@@ -41,8 +41,8 @@ returns c =
     let h = c .before .before .loop-test .taken in
     let q = c .before .cell-end in
     record {
-      placed = placed-more (a .s .now) (a .at) (a .e) (l .i) (l .count) (l .starts) (l .ends) (l .inv .1) h (q .result) (q .ensures);
-      all = λ z. walked-last (a .s .now) (a .at) (a .e) (l .i) (l .count) (l .starts) (l .ends) (l .inv .1) h (q .result) (q .ensures) (c .if1 .taken);
+      placed = placed-more (a .s .now) (a .at) (a .e) (l .i) (l .count) (l .starts) (l .ends) (l .inv .1) h (q .result) (q .ensures .0);
+      all = λ z. walked-last (a .s .now) (a .at) (a .e) (l .i) (l .count) (l .starts) (l .ends) (l .inv .1) h (q .result) (q .ensures .0) (c .if1 .taken);
       more = λ f. absurd (f refl);
     }
 
@@ -52,7 +52,7 @@ add-i c =
     let l = c .before .before .before .loop in
     let h = c .before .before .loop-test .taken in
     let q = c .before .cell-end in
-    omega (arith, cell-within (a .s .now) (a .at) (a .e) (l .i) (l .count) (l .starts) (l .ends) (l .inv .1) h (q .result) (q .ensures), l .inv .1 .ends-at .room)
+    omega (arith, cell-within (a .s .now) (a .at) (a .e) (l .i) (l .count) (l .starts) (l .ends) (l .inv .1) h (q .result) (q .ensures .0), l .inv .1 .ends-at .room)
 
 loop-less : tie.Need-loop-less Inv-loop μ-loop
 loop-less c = search needs
@@ -63,7 +63,7 @@ loop-again c =
     let l = c .before .before .before .loop in
     let h = c .before .before .loop-test .taken in
     let q = c .before .cell-end in
-    (omega arith, walked-on (a .s .now) (a .at) (a .e) (l .i) (l .count) (l .starts) (l .ends) (l .inv .1) h (q .result) (q .ensures) (c .if1 .left))
+    (omega arith, walked-on (a .s .now) (a .at) (a .e) (l .i) (l .count) (l .starts) (l .ends) (l .inv .1) h (q .result) (q .ensures .0) (c .if1 .left))
 
 returns-2 : tie.Need-returns-2 Inv-loop μ-loop
 returns-2 c =

@@ -71,6 +71,7 @@ returns-4 c =
         on = λ hs y. names-on _ hs _ _ _ _ (a .line-at .ensures) z _ x f ∙ w .0 .on _ hs _ (x .many f) (sym (x .kinds f)) y;
         table = λ hs y h g. table-told _ hs _ _ _ _ _ _ _ x f (w .1 y) (w .0 .starts y (omega arith) (starts-on _ _ _ _ (a .line-at .ensures) z _ h g));
         at = λ y. w .1 y .same-names;
+        fed = λ y. let l = line-ends _ _ _ _ (a .line-at .ensures) z in omega (arith, l .0, l .1);
       },
       λ y. (w .1 y .same-kind, w .1 y .same-headers),
     )
