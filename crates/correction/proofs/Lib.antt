@@ -1,4 +1,13 @@
+pub mod ColumnLaws
 pub mod DigitLaws
+pub mod FitLaws
+pub mod GeometryLaws
+pub mod KeepsLaws
+pub mod PairLaws
+pub mod PlanLaws
+pub mod PutLaws
+pub mod ReadLaws
 pub mod SizeLaws
 pub mod TextLaws
+pub mod UniqueLaws
 pub mod WriteLaws

@@ -24,12 +24,12 @@ accepted-table e = cc
 pub accepted-rows : {t u : Table} {n m : ℕ} → accepted t n ≡ accepted u m → n ≡ m
 accepted-rows e = cc
 
-fault-refused : (l : ℕ) (f : Fault) (t : Table) (n : ℕ) → faultOutcome l f ≡ accepted t n → ⊥
+pub fault-refused : (l : ℕ) (f : Fault) (t : Table) (n : ℕ) → faultOutcome l f ≡ accepted t n → ⊥
 fault-refused l clean t n e = accepted-not-refused e
 fault-refused l (breaks a c) t n e = accepted-not-refused e
 
 -- a run that stops is refused
-stops-refused : (l m k : ℕ) (f : Fault) (p : Place) (ps : List (List ℕ)) (t : Table) (n : ℕ) → run l (stopAt k f p) ps ≡ accepted t n → (f ≡ clean) × (run l p ps ≡ accepted t n)
+pub stops-refused : (l m k : ℕ) (f : Fault) (p : Place) (ps : List (List ℕ)) (t : Table) (n : ℕ) → run l (stopAt k f p) ps ≡ accepted t n → (f ≡ clean) × (run l p ps ≡ accepted t n)
 stops-refused l m k clean p ps t n e = (refl, e)
 stops-refused l m k (breaks a c) p ps t n e = absurd (accepted-not-refused (sym (run-stopped l a k c ps) ∙ e))
 
@@ -89,7 +89,7 @@ rows-accepted (x ∷ (y ∷ ys)) l t m u n e = by (isEndData x) refl (stops-refu
         go (suc r) h k a b = let o = k .kept r (omega (arith, h)) in record { line = omega (arith, o .line); bytes = o .bytes; cells = o .cells }
 
 -- ---- the lines before the data
-abbrev Early : Place → Type 0
+abbrev pub Early : Place → Type 0
 Early first = Unit {0}
 Early (comments k) = Unit {0}
 Early (headers due hs) = Unit {0}
@@ -100,7 +100,7 @@ Early (after t n) = ⊥
 Early (stopped a b c) = Unit {0}
 
 -- an early line l leads to an early place, or is the units line
-data Next (l : ℕ) : Place → Type 0 where
+pub data Next (l : ℕ) : Place → Type 0 where
   early : {p : Place} → Early p → Next l p
   table : (t : Table) → t .line ≡ l → Next l (rows t 0)
 
@@ -113,7 +113,7 @@ unfolding afterHeader
 next-header l zero hs = next-stop l l (unless (hasAll stationNames (namesIn hs)) 13 1) (names ctd hs) (early tt)
 next-header l (suc due) hs = early tt
 
-next-step : (l : ℕ) (p : Place) (x : List ℕ) → Early p → Next l (step l p x)
+pub next-step : (l : ℕ) (p : Place) (x : List ℕ) → Early p → Next l (step l p x)
 unfolding firstStep commentsStep firstHeaderStep headersStep namesStep unitsStep
 next-step l first x h = next-stop l l (lineRules true x then firstRules x) (comments (cond (isBottle x) bottle ctd)) (early tt)
 next-step l (comments k) x h = go (isComment x) k
@@ -131,7 +131,7 @@ next-step l (rows t n) x h = absurd h
 next-step l (after t n) x h = absurd h
 next-step l (stopped a b c) x h = early tt
 
-early-ends : (l : ℕ) (p : Place) (t : Table) (n : ℕ) → Early p → ending l p ≡ accepted t n → ⊥
+pub early-ends : (l : ℕ) (p : Place) (t : Table) (n : ℕ) → Early p → ending l p ≡ accepted t n → ⊥
 early-ends l first t n h e = accepted-not-refused e
 early-ends l (comments k) t n h e = accepted-not-refused e
 early-ends l (headers due hs) t n h e = accepted-not-refused e
@@ -141,7 +141,7 @@ early-ends l (rows u m) t n h e = h
 early-ends l (after u m) t n h e = h
 early-ends l (stopped a b c) t n h e = accepted-not-refused e
 
-early-cut : (l : ℕ) (p : Place) (x : List ℕ) (t : Table) (n : ℕ) → Early p → cut l p x ≡ accepted t n → ⊥
+pub early-cut : (l : ℕ) (p : Place) (x : List ℕ) (t : Table) (n : ℕ) → Early p → cut l p x ≡ accepted t n → ⊥
 early-cut l first x t n h e = fault-refused l (unended x) t n e
 early-cut l (comments k) x t n h e = fault-refused l (unended x) t n e
 early-cut l (headers due hs) x t n h e = fault-refused l (unended x) t n e
@@ -152,11 +152,11 @@ early-cut l (after u m) x t n h e = h
 early-cut l (stopped a b c) x t n h e = accepted-not-refused e
 
 -- the data lines come after the lines that the table counts
-record Reached (l : ℕ) (ps : List (List ℕ)) (t : Table) (n : ℕ) : Type 0 where
-  line : l ≤ t .line
-  run-on : run (t .line + 1) (rows t 0) (drop (t .line + 1 - l) ps) ≡ accepted t n
+pub record Reached (l : ℕ) (ps : List (List ℕ)) (t : Table) (n : ℕ) : Type 0 where
+  pub line : l ≤ t .line
+  pub run-on : run (t .line + 1) (rows t 0) (drop (t .line + 1 - l) ps) ≡ accepted t n
 
-rows-reached : (ps : List (List ℕ)) (l : ℕ) (p : Place) (t : Table) (n : ℕ) → Early p → run l p ps ≡ accepted t n → Reached l ps t n
+pub rows-reached : (ps : List (List ℕ)) (l : ℕ) (p : Place) (t : Table) (n : ℕ) → Early p → run l p ps ≡ accepted t n → Reached l ps t n
 unfolding run
 rows-reached [] l p t n h e = absurd (early-ends l p t n h e)
 rows-reached ([] ∷ []) l p t n h e = absurd (early-ends l p t n h e)

@@ -97,12 +97,12 @@ unfolding lineStart
 start-in s i k h = rw (lt-ltb k (length (linesFrom s i)) h)
 
 -- ---- a data line of an accepted file
-getD-mapped : (ls : List (List ℕ)) (k : ℕ) → k < length ls → getD (map (pieces 44) ls) k [] ≡ pieces 44 (getD ls k [])
+pub getD-mapped : (ls : List (List ℕ)) (k : ℕ) → k < length ls → getD (map (pieces 44) ls) k [] ≡ pieces 44 (getD ls k [])
 getD-mapped [] k h = absurd (not-suc-le-zero h)
 getD-mapped (l ∷ ls) zero h = refl
 getD-mapped (l ∷ ls) (suc k) h = getD-mapped ls k (le-of-suc-le-suc h)
 
-cells-many : (ks : List ℕ) (ts : List (List ℕ)) → rowRules ks ts ≡ clean → length ts ≡ length ks
+pub cells-many : (ks : List ℕ) (ts : List (List ℕ)) → rowRules ks ts ≡ clean → length ts ≡ length ks
 unfolding rowRules
 cells-many ks ts e = go (eqb (length ts) (length ks)) refl e
   where

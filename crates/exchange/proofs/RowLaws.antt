@@ -29,7 +29,7 @@ use Rattle.exchange.specs.declared.rows.Row.{Row}
 use Rattle.exchange.specs.RowsWords.{spanText, keyAt, KeysWithin, cellsOf, rowRefused, RowRead}
 
 -- ---- one verdict
-fault-good : (v : Verdict) (c : ℕ) → isGood v ≡ true → kindFault v c ≡ clean
+pub fault-good : (v : Verdict) (c : ℕ) → isGood v ≡ true → kindFault v c ≡ clean
 fault-good blank c h = absurd (true≢false (sym h))
 fault-good wrong c h = absurd (true≢false (sym h))
 fault-good outOfRange c h = absurd (true≢false (sym h))

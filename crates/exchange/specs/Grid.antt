@@ -1,11 +1,32 @@
--- Document 01, "Lines": where lines and cells stand in a file, from the lengths of its pieces alone.
+-- Document 01, "Lines": a file put together from its lines and cells, and where these stand in it, from the lengths of its pieces alone.
 use Prim.Native.Nat.{ℕ, zero, suc, _+_}
-use mathlib.Core.List.{List, [], _∷_, map}
+use mathlib.Core.List.{List, [], _∷_, _++_, map}
 use mathlib.Core.Bool.{Bool, cond}
-use lib.ListN.{length, getD, drop}
+use lib.ListN.{length, getD, set, drop}
 use lib.Dec.{eqb, ltb}
 use Rattle.text.specs.declared.Span.{Span}
 use Rattle.text.specs.Cells.{lineAt, pieces}
+
+-- pieces put together again, one byte c between each two; and lines of cells put together to a file
+unfoldable pub joinLater : ℕ → List (List ℕ) → List ℕ
+joinLater c [] = []
+joinLater c (p ∷ ps) = c ∷ (p ++ joinLater c ps)
+
+unfoldable pub join : ℕ → List (List ℕ) → List ℕ
+join c [] = []
+join c (p ∷ ps) = p ++ joinLater c ps
+
+abbrev pub ungrid : List (List (List ℕ)) → List ℕ
+ungrid g = join 10 (map (join 44) g)
+
+-- a text for the cell of a column, from 0; such texts written into the cells of a row, one after the other
+pub record Write : Type 0 where
+  pub col : ℕ
+  pub text : List ℕ
+
+unfoldable pub written : List (List ℕ) → List Write → List (List ℕ)
+written ts [] = ts
+written ts (w ∷ ws) = written (set ts (w .col) (w .text)) ws
 
 -- where piece k begins, the pieces being of the given lengths and parted by one byte each
 unfoldable pub starts : List ℕ → ℕ → ℕ

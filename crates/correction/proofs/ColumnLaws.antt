@@ -1,0 +1,133 @@
+-- The columns of a measurement's cells: a flag column stands in the line, its kind is the one that its parameter's name says, and it is the flag column of
+-- one column only. So the cells of different measurements are different, and none is a cell that a profile's key or record is read from.
+use Prim.Native.Nat.{ℕ, zero, suc, _+_, _-_, _≤_, _<_}
+use mathlib.Core.Path.{_≡_, refl, sym, ap, _∙_, subst}
+use mathlib.Core.Bool.{Bool, true, false, cond, _&&_, and-eq-true-iff}
+use mathlib.Core.List.{List, [], _∷_, map}
+use native.Mathlib.Omega.{arith}
+use lib.ListN.{length, getD, length-map}
+use lib.Dec.{eqb, ltb}
+use borrow.Author.Tests.{ltb-true}
+use Rattle.text.specs.Bytes.{equal}
+use Rattle.text.specs.Names.{beginsCtd}
+use Rattle.text.specs.Catalogue.{names, kinds, kindIn}
+use Rattle.text.proofs.EqualLaws.{equal-same}
+use Rattle.exchange.specs.Columns.{isFlag, parameterOf, Column, columnOf, columnsOf, kindOfName, flagFrom, kindsOf}
+use Rattle.exchange.specs.Places.{Table}
+use Rattle.exchange.specs.Answers.{kindAt}
+use Rattle.exchange.specs.Located.{nameAt, flagColumn, hasFlag}
+use Rattle.exchange.proofs.JoinLaws.{All}
+use Rattle.correction.proofs.UniqueLaws.{Unique}
+use Rattle.correction.proofs.PlanLaws.{cellColumns}
+
+getD-map-in : {A B : Type 0} (f : A → B) (l : List A) (i : ℕ) (d : B) (e : A) → i < length l → getD (map f l) i d ≡ f (getD l i e)
+getD-map-in f [] i d e h = absurd (omega arith)
+getD-map-in f (x ∷ l) zero d e h = refl
+getD-map-in f (x ∷ l) (suc i) d e h = getD-map-in f l i d e (omega arith)
+
+-- ---- the flag column
+-- name i of the list is the flag column's name of n
+record FlagName (ns : List (List ℕ)) (n : List ℕ) (i : ℕ) : Type 0 where
+  lt : i < length ns
+  flag : isFlag (getD ns i []) ≡ true
+  of : parameterOf (getD ns i []) ≡ n
+
+flag-from : (ns : List (List ℕ)) (k : ℕ) (n : List ℕ) (j : ℕ) → flagFrom k n ns ≡ j → 0 < j → (i : ℕ) × (j ≡ k + i) × FlagName ns n i
+unfolding flagFrom
+flag-from [] k n j e h = absurd (omega arith)
+flag-from (x ∷ ns) k n j e h = go (isFlag x && equal (parameterOf x) n) refl e (flag-from ns (k + 1) n j)
+  where
+    up : (i : ℕ) × (j ≡ k + 1 + i) × FlagName ns n i → (i : ℕ) × (j ≡ k + i) × FlagName (x ∷ ns) n i
+    up f = (suc (f .0), omega (arith, f .1), record { lt = omega (arith, f .2 .lt); flag = f .2 .flag; of = f .2 .of })
+
+    go : (b : Bool) → (isFlag x && equal (parameterOf x) n) ≡ b → cond b k (flagFrom (k + 1) n ns) ≡ j
+        → (flagFrom (k + 1) n ns ≡ j → 0 < j → (i : ℕ) × (j ≡ k + 1 + i) × FlagName ns n i) → (i : ℕ) × (j ≡ k + i) × FlagName (x ∷ ns) n i
+    go true q e ih =
+        let w = (and-eq-true-iff (isFlag x) (equal (parameterOf x) n)) .0 q in
+        (0, omega arith, record { lt = omega arith; flag = w .0; of = equal-same (parameterOf x) n (w .1) })
+    go false q e ih = up (ih e h)
+
+-- j is the flag column of column c
+pub record FlagOf (t : Table) (c j : ℕ) : Type 0 where
+  pub some : 1 ≤ j
+  pub most : j ≤ length (t .names)
+  pub kind : kindAt t j ≡ cond (beginsCtd (nameAt t c)) 5 4
+  pub of : parameterOf (nameAt t j) ≡ nameAt t c
+
+pub flag-of : (t : Table) (c : ℕ) → c - 1 < length (t .names) → hasFlag t c ≡ true → FlagOf t c (flagColumn t c)
+unfolding flagColumn kindOfName
+flag-of t c h e = found (flag-from (t .names) 1 (nameAt t c) (flagColumn t c) (sym place) (ltb-true 0 (flagColumn t c) e))
+  where
+    ns : List (List ℕ)
+    ns = t .names
+
+    place : flagColumn t c ≡ flagFrom 1 (nameAt t c) ns
+    place =
+        getD-map-in (λ (x : Column). x .flag) (columnsOf ns) (c - 1) 0 (columnOf ns []) (subst (λ (n : ℕ). c - 1 < n) (sym (length-map ns (columnOf ns))) h)
+        ∙ ap (λ (x : Column). x .flag) (getD-map-in (columnOf ns) ns (c - 1) (columnOf ns []) [] h)
+
+    found : (i : ℕ) × (flagColumn t c ≡ 1 + i) × FlagName ns (nameAt t c) i → FlagOf t c (flagColumn t c)
+    found (i, p, w) =
+        let q : flagColumn t c - 1 ≡ i = omega (arith, p) in
+        let kind : getD (kindsOf ns) i 0 ≡ cond (beginsCtd (nameAt t c)) 5 4 =
+        getD-map-in kindOfName ns i 0 [] (w .lt) ∙ rw (w .flag, w .of) in
+        record {
+          some = omega (arith, p);
+          most = omega (arith, p, w .lt);
+          kind = ap (λ (k : ℕ). getD (kindsOf ns) k 0) q ∙ kind;
+          of = ap (λ (k : ℕ). parameterOf (getD ns k [])) q ∙ w .of;
+        }
+
+-- a measured column is no flag column
+flag-kind : (b : Bool) → (_≡_ {A = ℕ} (cond b 5 4) 0 → ⊥) × (cond b 5 4 < 6)
+flag-kind true = ((λ e. omega arith), omega arith)
+flag-kind false = ((λ e. omega arith), omega arith)
+
+pub measured-no-flag : (t : Table) (c d j : ℕ) → kindAt t c ≡ 0 → FlagOf t d j → c - 1 ≡ j - 1 → ⊥
+measured-no-flag t c d j m f e = flag-kind (beginsCtd (nameAt t d)) .0 (sym (f .kind) ∙ ap (λ (k : ℕ). getD (kindsOf (t .names)) k 0) (sym e) ∙ m)
+
+-- two columns have two flag columns
+pub flags-apart : (t : Table) (c d j k : ℕ) → Unique (t .names) → c - 1 < length (t .names) → d - 1 < length (t .names) → FlagOf t c j → FlagOf t d k → j - 1 ≡ k - 1 → c - 1 ≡ d - 1
+flags-apart t c d j k u h l f g e = u (c - 1) (d - 1) h l (sym (f .of) ∙ ap (λ (i : ℕ). parameterOf (getD (t .names) i [])) e ∙ g .of)
+
+-- ---- a measured column of the line, and its cells' columns
+pub record Measured (t : Table) (c : ℕ) : Type 0 where
+  pub in-line : c - 1 < length (t .names)
+  pub kind : kindAt t c ≡ 0
+
+-- the columns of a list are none of another's
+abbrev pub Others : List ℕ → List ℕ → Type 0
+Others cs ds = All (λ (i : ℕ). All (λ (j : ℕ). i ≡ j → ⊥) ds) cs
+
+module _ (t : Table) (u : Unique (t .names)) where
+  -- of two measurements in different columns
+  pub columns-apart : (c d : ℕ) → Measured t c → Measured t d → (c - 1 ≡ d - 1 → ⊥) → Others (cellColumns t c) (cellColumns t d)
+  unfolding cellColumns
+  columns-apart c d m n df = go (hasFlag t c) refl (hasFlag t d) refl
+    where
+      go : (a : Bool) → hasFlag t c ≡ a → (b : Bool) → hasFlag t d ≡ b
+          → Others ((c - 1) ∷ cond a ((flagColumn t c - 1) ∷ []) []) ((d - 1) ∷ cond b ((flagColumn t d - 1) ∷ []) [])
+      go false p false q = ((df, tt), tt)
+      go false p true q = ((df, (measured-no-flag t c d (flagColumn t d) (m .kind) (flag-of t d (n .in-line) q), tt)), tt)
+      go true p false q = ((df, tt), (((λ e. measured-no-flag t d c (flagColumn t c) (n .kind) (flag-of t c (m .in-line) p) (sym e)), tt), tt))
+      go true p true q =
+          let f = flag-of t c (m .in-line) p in
+          let g = flag-of t d (n .in-line) q in
+          ((df, (measured-no-flag t c d (flagColumn t d) (m .kind) g, tt)),
+          (((λ e. measured-no-flag t d c (flagColumn t c) (n .kind) f (sym e)),
+          ((λ e. df (flags-apart t c d (flagColumn t c) (flagColumn t d) u (m .in-line) (n .in-line) f g e)), tt)), tt))
+
+-- the value column is not the flag column
+pub columns-distinct : (t : Table) (c : ℕ) → Measured t c → hasFlag t c ≡ true → c - 1 ≡ flagColumn t c - 1 → ⊥
+columns-distinct t c m h = measured-no-flag t c c (flagColumn t c) (m .kind) (flag-of t c (m .in-line) h)
+
+-- their kinds are those of a measured or a flag column, below those of the station names
+pub columns-kinds : (t : Table) (c : ℕ) → Measured t c → All (λ (i : ℕ). getD (kindsOf (t .names)) i 0 < 6) (cellColumns t c)
+unfolding cellColumns
+columns-kinds t c m = go (hasFlag t c) refl
+  where
+    go : (a : Bool) → hasFlag t c ≡ a → All (λ (i : ℕ). getD (kindsOf (t .names)) i 0 < 6) ((c - 1) ∷ cond a ((flagColumn t c - 1) ∷ []) [])
+    go true p =
+        let k : kindAt t (flagColumn t c) ≡ cond (beginsCtd (nameAt t c)) 5 4 = flag-of t c (m .in-line) p .kind in
+        (omega (arith, m .kind), (omega (arith, k, flag-kind (beginsCtd (nameAt t c)) .1), tt))
+    go false p = (omega (arith, m .kind), tt)

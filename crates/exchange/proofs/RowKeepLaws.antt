@@ -1,0 +1,103 @@
+-- In an accepted file any line that keeps the rules of a row may stand in the place of a data line. No header rule is looked at.
+--   row-replaced : outcomeOf f ≡ accepted t n → r < n → Free 10 x → lineRules true x ≡ clean → isEndData x ≡ false → rowRules (kindsOf (t .names)) (pieces 44 x) ≡ clean
+--       → outcomeOf (join 10 (set (pieces 10 f) (t .line + r) x)) ≡ accepted t n
+--   lines-replaced : Free 10 x → pieces 10 (join 10 (set (pieces 10 f) k x)) ≡ set (pieces 10 f) k x
+use Prim.Native.Nat.{ℕ, zero, suc, _+_, _-_, _<_}
+use mathlib.Core.Path.{_≡_, refl, sym, ap, subst, _∙_}
+use mathlib.Core.List.{List, [], _∷_}
+use mathlib.Core.Bool.{Bool, true, false, cond}
+use native.Mathlib.Omega.{arith}
+use lib.ListN.{set}
+use lib.Dec.{eqb, ltb}
+use Rattle.text.specs.Cells.{firstPiece, laterPieces, pieces}
+use Rattle.exchange.specs.Faults.{Fault, clean, _then_, unless}
+use Rattle.exchange.specs.LineRules.{lineRules, unended}
+use Rattle.exchange.specs.Columns.{kindsOf}
+use Rattle.exchange.specs.Rows.{rowRules, isEndData}
+use Rattle.exchange.specs.Grid.{join}
+use Rattle.exchange.specs.Places.{Table, Place, first, rows, after, stopped, stopAt, endData, rowsStep, step, accepted, run, outcomeOf}
+use Rattle.exchange.proofs.RunLaws.{run-stopped}
+use Rattle.exchange.proofs.HeaderLaws.{then-clean}
+use Rattle.exchange.proofs.AcceptLaws.{accepted-not-refused, fault-refused, stops-refused, after-accepted, rows-accepted, Early, Next, early, table, next-step, early-ends, early-cut, rows-reached}
+use Rattle.exchange.proofs.JoinLaws.{Free, first-free, later-free, pieces-join}
+use Rattle.exchange.proofs.UngridLaws.{all-set}
+
+pub lines-replaced : (f x : List ℕ) (k : ℕ) → Free 10 x → pieces 10 (join 10 (set (pieces 10 f) k x)) ≡ set (pieces 10 f) k x
+lines-replaced f x zero h = pieces-join 10 x (laterPieces 10 f) h (later-free 10 f)
+lines-replaced f x (suc k) h = pieces-join 10 (firstPiece 10 f) (set (laterPieces 10 f) k x) (first-free 10 f) (all-set (Free 10) (laterPieces 10 f) k x (later-free 10 f) h)
+
+-- a line in front of others, one of which is replaced
+run-set : (l : ℕ) (p : Place) (y z : List ℕ) (zs : List (List ℕ)) (k : ℕ) (x : List ℕ) → run l p (y ∷ set (z ∷ zs) k x) ≡ run (l + 1) (step l p y) (set (z ∷ zs) k x)
+unfolding run
+run-set l p y z zs zero x = refl
+run-set l p y z zs (suc k) x = refl
+
+module _ (t : Table) (x : List ℕ) (bytes : lineRules true x ≡ clean) (more : isEndData x ≡ false) (cells : rowRules (kindsOf (t .names)) (pieces 44 x) ≡ clean) where
+  row-step : (l m : ℕ) → unless (ltb m 1000000) 20 1 ≡ clean → rowsStep l t m x ≡ rows t (m + 1)
+  unfolding rowsStep
+  row-step l m e = rw (bytes, more, e, cells)
+
+  -- in the place of data line r of those that follow
+  later-row : (ps : List (List ℕ)) (l m : ℕ) (u : Table) (n r : ℕ) → run l (rows t m) ps ≡ accepted u n → r < n - m → run l (rows t m) (set ps r x) ≡ accepted u n
+  unfolding run rowsStep
+  later-row [] l m u n r e h = absurd (accepted-not-refused e)
+  later-row ([] ∷ []) l m u n r e h = absurd (accepted-not-refused e)
+  later-row ((y ∷ ys) ∷ []) l m u n r e h = absurd (fault-refused l (unended (y ∷ ys)) u n e)
+  later-row (y ∷ (z ∷ zs)) l m u n r e h =
+      by (isEndData y) refl (stops-refused (l + 1) 0 l (lineRules true y) _ (z ∷ zs) u n e) (later-row (z ∷ zs) (l + 1) (m + 1) u n)
+    where
+      f : Fault
+      f = (unless (ltb m 1000000) 20 1) then (rowRules (kindsOf (t .names)) (pieces 44 y))
+
+      ends : (b : Bool) → run (l + 1) (cond b (stopped 19 l 1) (after t m)) (z ∷ zs) ≡ accepted u n → m ≡ n
+      ends true e = absurd (accepted-not-refused (sym (run-stopped (l + 1) 19 l 1 (z ∷ zs)) ∙ e))
+      ends false e = after-accepted (z ∷ zs) (l + 1) t m u n e .1
+
+      goes-on : (r : ℕ) → r < n - m → f ≡ clean → rowsStep l t m y ≡ rows t (m + 1) → run (l + 1) (rows t (m + 1)) (z ∷ zs) ≡ accepted u n
+          → ((r : ℕ) → run (l + 1) (rows t (m + 1)) (z ∷ zs) ≡ accepted u n → r < n - (m + 1) → run (l + 1) (rows t (m + 1)) (set (z ∷ zs) r x) ≡ accepted u n)
+          → run l (rows t m) (set (y ∷ (z ∷ zs)) r x) ≡ accepted u n
+      goes-on zero h c s e ih =
+          ap (λ (p : Place). run (l + 1) p (z ∷ zs)) (row-step l m (then-clean (unless (ltb m 1000000) 20 1) (rowRules (kindsOf (t .names)) (pieces 44 y)) c .0)) ∙ e
+      goes-on (suc r) h c s e ih =
+          run-set l (rows t m) y z zs r x ∙ ap (λ (p : Place). run (l + 1) p (set (z ∷ zs) r x)) s ∙ ih r e (omega (arith, h))
+
+      by : (b : Bool) → isEndData y ≡ b → (lineRules true y ≡ clean) × (run (l + 1) (cond b (endData l t m) (stopAt l f (rows t (m + 1)))) (z ∷ zs) ≡ accepted u n)
+          → ((r : ℕ) → run (l + 1) (rows t (m + 1)) (z ∷ zs) ≡ accepted u n → r < n - (m + 1) → run (l + 1) (rows t (m + 1)) (set (z ∷ zs) r x) ≡ accepted u n)
+          → run l (rows t m) (set (y ∷ (z ∷ zs)) r x) ≡ accepted u n
+      by true q e ih = absurd (omega (arith, h, ends (eqb m 0) (e .1)))
+      by false q e ih =
+          let w = stops-refused (l + 1) 0 l f (rows t (m + 1)) (z ∷ zs) u n (e .1) in
+          goes-on r h (w .0) (rw (e .0, q, w .0)) (w .1) ih
+
+-- the same from a line before the data
+early-row : (ps : List (List ℕ)) (l : ℕ) (p : Place) (t : Table) (n r : ℕ) (x : List ℕ) → lineRules true x ≡ clean → isEndData x ≡ false → rowRules (kindsOf (t .names)) (pieces 44 x) ≡ clean
+    → Early p → run l p ps ≡ accepted t n → r < n → run l p (set ps (t .line + 1 - l + r) x) ≡ accepted t n
+unfolding run
+early-row [] l p t n r x a b c h e k = absurd (early-ends l p t n h e)
+early-row ([] ∷ []) l p t n r x a b c h e k = absurd (early-ends l p t n h e)
+early-row ((y ∷ ys) ∷ []) l p t n r x a b c h e k = absurd (early-cut l p (y ∷ ys) t n h e)
+early-row (y ∷ (z ∷ zs)) l p t n r x a b c h e k = by (step l p y) refl (next-step l p y h) e (λ q g d. early-row (z ∷ zs) (l + 1) q t n r x a b c g d k)
+  where
+    at : (q : Place) (i j : ℕ) → step l p y ≡ q → j ≡ suc i → run (l + 1) q (set (z ∷ zs) i x) ≡ accepted t n → run l p (set (y ∷ (z ∷ zs)) j x) ≡ accepted t n
+    at q i j s g d =
+        ap (λ (k : ℕ). run l p (set (y ∷ (z ∷ zs)) k x)) g ∙ run-set l p y z zs i x ∙ ap (λ (p : Place). run (l + 1) p (set (z ∷ zs) i x)) s ∙ d
+
+    by : (q : Place) → step l p y ≡ q → Next l q → run (l + 1) q (z ∷ zs) ≡ accepted t n
+        → ((q : Place) → Early q → run (l + 1) q (z ∷ zs) ≡ accepted t n → run (l + 1) q (set (z ∷ zs) (t .line + 1 - (l + 1) + r) x) ≡ accepted t n)
+        → run l p (set (y ∷ (z ∷ zs)) (t .line + 1 - l + r) x) ≡ accepted t n
+    by q s (early g) e ih =
+        let w = rows-reached (z ∷ zs) (l + 1) q t n g e in
+        at q (t .line + 1 - (l + 1) + r) (t .line + 1 - l + r) s (omega (arith, w .line)) (ih q g e)
+    by q s (table u d) e ih =
+        let w = rows-accepted (z ∷ zs) (l + 1) u 0 t n e in
+        let d' : t .line ≡ l = subst (λ (v : Table). v .line ≡ l) (w .table) d in
+        let c' : rowRules (kindsOf (u .names)) (pieces 44 x) ≡ clean = subst (λ (v : Table). rowRules (kindsOf (v .names)) (pieces 44 x) ≡ clean) (sym (w .table)) c in
+        at (rows u 0) r (t .line + 1 - l + r) s (omega (arith, d')) (later-row u x a b c' (z ∷ zs) (l + 1) 0 t n r e (omega (arith, k)))
+
+pub row-replaced : (f : List ℕ) (t : Table) (n r : ℕ) (x : List ℕ) → outcomeOf f ≡ accepted t n → r < n → Free 10 x → lineRules true x ≡ clean → isEndData x ≡ false
+    → rowRules (kindsOf (t .names)) (pieces 44 x) ≡ clean → outcomeOf (join 10 (set (pieces 10 f) (t .line + r) x)) ≡ accepted t n
+unfolding outcomeOf
+row-replaced f t n r x e k h a b c =
+    let i : t .line + r ≡ t .line + 1 - 1 + r = omega arith in
+    ap (run 1 first) (lines-replaced f x (t .line + r) h ∙ ap (λ (j : ℕ). set (pieces 10 f) j x) i)
+    ∙ early-row (pieces 10 f) 1 first t n r x a b c tt e k

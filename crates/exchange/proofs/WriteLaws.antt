@@ -1,0 +1,180 @@
+-- Texts written into cells of a row that keeps its rules: with texts that fit their columns it keeps them, and an accepted file stays accepted.
+--   rules-kept : isGood (judge (kindOf (getD ks i 0)) u) ≡ true → rowRules ks ts ≡ clean → rowRules ks (set ts i u) ≡ clean
+--   measured-goes-on : c < length ks → getD ks c 0 ≡ 0 → rowRules ks (pieces 44 x) ≡ clean → isEndData x ≡ false
+--   writes-widths : All (Fits ks (map length ts)) ws → map length (written ts ws) ≡ map length ts
+--   writes-kept : All (Fits ks (map length ts)) ws → RowHolds ks ts → RowHolds ks (written ts ws)
+--   row-holds : outcomeOf f ≡ accepted t n → r < n → RowHolds (kindsOf (t .names)) (getD (grid f) (t .line + r) [])
+-- and for texts ws that fit row r of an accepted file f, where column c is measured:
+--   grid-written : grid (ungrid (gridWritten f (t .line + r) ws)) ≡ gridWritten f (t .line + r) ws
+--   file-written : outcomeOf (ungrid (gridWritten f (t .line + r) ws)) ≡ accepted t n
+use Prim.Native.Nat.{ℕ, zero, suc, _+_, _<_}
+use mathlib.Core.Path.{_≡_, refl, sym, ap, subst, _∙_}
+use mathlib.Core.Bool.{Bool, true, false, and-eq-true-iff}
+use mathlib.Core.List.{List, [], _∷_, map}
+use native.Mathlib.Omega.{arith}
+use lib.Dec.{eqb, leb}
+use lib.ListN.{length, getD, set, drop, length-set, length-map, length-drop, List·getD-map}
+use lib.Seq.{map-set-same, getD-drop}
+use borrow.Author.Tests.{ne-eqb, leb-true}
+use Rattle.text.specs.Bytes.{bytes, every}
+use Rattle.text.specs.Cells.{firstPiece, laterPieces, pieces}
+use Rattle.text.specs.Decimals.{Verdict, blank, wrong, outOfRange, good, front, fraction, unsignedOf, decimalOf}
+use Rattle.text.specs.Spaces.{lead, keep, back, trim}
+use Rattle.text.specs.Judge.{kindOf, ofKind, judge}
+use Rattle.text.specs.Rows.{isGood}
+use Rattle.text.proofs.EqualLaws.{equal-same}
+use Rattle.text.proofs.EveryLaws.{every-cons}
+use Rattle.text.proofs.LineLaws.{isPlain}
+use Rattle.exchange.specs.Faults.{clean, breaks, _then_, unless, kindFault}
+use Rattle.exchange.specs.LineRules.{lineRules}
+use Rattle.exchange.specs.Columns.{kindsOf}
+use Rattle.exchange.specs.Rows.{cellFaults, rowRules, isEndData}
+use Rattle.exchange.specs.Grid.{join, ungrid, Write, written}
+use Rattle.exchange.specs.Profiles.{grid}
+use Rattle.exchange.specs.Places.{Table, accepted, outcomeOf}
+use Rattle.exchange.proofs.HeaderLaws.{then-clean}
+use Rattle.exchange.proofs.RowLaws.{fault-good}
+use Rattle.exchange.proofs.GridLaws.{getD-mapped, cells-many}
+use Rattle.exchange.proofs.AcceptLaws.{rows-kept}
+use Rattle.exchange.proofs.JoinLaws.{Free, All, join-pieces, pieces-free}
+use Rattle.exchange.proofs.UngridLaws.{all-at, CleanRow, clean-row, clean-grid, row-free, cells-row, clean-row-set, clean-set, ungrid-set, grid-ungrid}
+use Rattle.exchange.proofs.RowKeepLaws.{row-replaced}
+use Rattle.exchange.proofs.LineKeepLaws.{line-kept}
+
+-- ---- rules 15, then 17, 16, 18 of a row
+fault-moved : (v : Verdict) (c d : ℕ) → kindFault v c ≡ clean → kindFault v d ≡ clean
+fault-moved blank c d e = let z : _≡_ {A = ℕ} 0 1 = cc in absurd (omega arith)
+fault-moved wrong c d e = let z : _≡_ {A = ℕ} 0 1 = cc in absurd (omega arith)
+fault-moved outOfRange c d e = let z : _≡_ {A = ℕ} 0 1 = cc in absurd (omega arith)
+fault-moved (good m v n) c d e = refl
+
+faults-moved : (ks : List ℕ) (ts : List (List ℕ)) (c d : ℕ) → cellFaults c ks ts ≡ clean → cellFaults d ks ts ≡ clean
+unfolding cellFaults
+faults-moved [] ts c d e = refl
+faults-moved (k ∷ ks) [] c d e = refl
+faults-moved (k ∷ ks) (t ∷ ts) c d e =
+    let w = then-clean (kindFault (judge (kindOf k) t) c) (cellFaults (c + length t + 1) ks ts) e in
+    rw (fault-moved (judge (kindOf k) t) c d (w .0)) (faults-moved ks ts (c + length t + 1) (d + length t + 1) (w .1))
+
+faults-kept : (ks : List ℕ) (ts : List (List ℕ)) (i : ℕ) (u : List ℕ) (c d : ℕ) → isGood (judge (kindOf (getD ks i 0)) u) ≡ true → cellFaults c ks ts ≡ clean → cellFaults d ks (set ts i u) ≡ clean
+unfolding cellFaults
+faults-kept [] ts i u c d g e = refl
+faults-kept (k ∷ ks) [] i u c d g e = refl
+faults-kept (k ∷ ks) (t ∷ ts) zero u c d g e =
+    let w = then-clean (kindFault (judge (kindOf k) t) c) (cellFaults (c + length t + 1) ks ts) e in
+    rw (fault-good (judge (kindOf k) u) d g) (faults-moved ks ts (c + length t + 1) (d + length u + 1) (w .1))
+faults-kept (k ∷ ks) (t ∷ ts) (suc i) u c d g e =
+    let w = then-clean (kindFault (judge (kindOf k) t) c) (cellFaults (c + length t + 1) ks ts) e in
+    rw (fault-moved (judge (kindOf k) t) c d (w .0)) (faults-kept ks ts i u (c + length t + 1) (d + length t + 1) g (w .1))
+
+pub rules-kept : (ks : List ℕ) (ts : List (List ℕ)) (i : ℕ) (u : List ℕ) → isGood (judge (kindOf (getD ks i 0)) u) ≡ true → rowRules ks ts ≡ clean → rowRules ks (set ts i u) ≡ clean
+unfolding rowRules
+rules-kept ks ts i u g e =
+    let w = then-clean (unless (eqb (length ts) (length ks)) 15 1) (cellFaults 1 ks ts then clean) e in
+    let v = then-clean (cellFaults 1 ks ts) clean (w .1) in
+    rw (length-set ts i u, w .0, faults-kept ks ts i u 1 1 g (v .0))
+
+-- ---- a row with a measured column is not the line END_DATA, whose one cell is no decimal
+end-no-row : (ks : List ℕ) (c : ℕ) → c < length ks → getD ks c 0 ≡ 0 → rowRules ks (bytes "END_DATA" ∷ []) ≡ clean → ⊥
+unfolding rowRules cellFaults every lead keep back trim front fraction unsignedOf decimalOf kindOf ofKind judge
+end-no-row [] c h k e = absurd (omega arith)
+end-no-row (x ∷ []) zero h k e =
+    let f : breaks 16 1 ≡ clean = subst (λ (y : ℕ). rowRules (y ∷ []) (bytes "END_DATA" ∷ []) ≡ clean) k e in
+    let z : _≡_ {A = ℕ} 0 1 = cc f in
+    omega arith
+end-no-row (x ∷ []) (suc c) h k e = omega arith
+end-no-row (x ∷ (y ∷ ks)) c h k e = omega (arith, cells-many (x ∷ (y ∷ ks)) (bytes "END_DATA" ∷ []) e)
+
+pub measured-goes-on : (ks : List ℕ) (x : List ℕ) (c : ℕ) → c < length ks → getD ks c 0 ≡ 0 → rowRules ks (pieces 44 x) ≡ clean → isEndData x ≡ false
+unfolding firstPiece laterPieces
+measured-goes-on ks x c h k e = go (isEndData x) refl
+  where
+    go : (b : Bool) → isEndData x ≡ b → b ≡ false
+    go true q = absurd (end-no-row ks c h k (subst (λ (y : List ℕ). rowRules ks (pieces 44 y) ≡ clean) (equal-same x (bytes "END_DATA") q) e))
+    go false q = refl
+
+-- ---- a row that keeps its rules
+pub record RowHolds (ks : List ℕ) (ts : List (List ℕ)) : Type 0 where
+  pub texts : CleanRow ts
+  pub line : lineRules true (join 44 ts) ≡ clean
+  pub cells : rowRules ks ts ≡ clean
+
+-- a text that may be written into a row of columns of these kinds and cells of these widths: as long as the cell it replaces, plain bytes, no comma, good by its column's kind
+pub record Fits (ks widths : List ℕ) (w : Write) : Type 0 where
+  pub inside : w .col < length widths
+  pub long : length (w .text) ≡ getD widths (w .col) 0
+  pub plain : every isPlain (w .text) ≡ true
+  pub comma : Free 44 (w .text)
+  pub kind : isGood (judge (kindOf (getD ks (w .col) 0)) (w .text)) ≡ true
+
+plain-line : (u : List ℕ) → every isPlain u ≡ true → Free 10 u
+plain-line [] e = tt
+plain-line (x ∷ u) e =
+    let w = every-cons isPlain x u e in
+    let l = leb-true 0x20 x ((and-eq-true-iff (leb 0x20 x) (leb x 0x7e)) .0 (w .0) .0) in
+    (ne-eqb x 10 (λ q. omega arith), plain-line u (w .1))
+
+module _ (ks : List ℕ) (ts : List (List ℕ)) (w : Write) (f : Fits ks (map length ts) w) where
+  same-width : length (w .text) ≡ length (getD ts (w .col) [])
+  same-width = f .long ∙ List·getD-map length ts (w .col) []
+
+  write-widths : map length (set ts (w .col) (w .text)) ≡ map length ts
+  write-widths = map-set-same length ts (w .col) (w .text) [] same-width
+
+  write-kept : RowHolds ks ts → RowHolds ks (set ts (w .col) (w .text))
+  write-kept h =
+      let i : w .col < length ts = rw length-map at (f .inside) in
+      record {
+        texts = clean-row-set ts (w .col) (w .text) (h .texts) (f .comma, plain-line (w .text) (f .plain));
+        line = line-kept ts (w .col) (w .text) i same-width (f .plain) (h .line);
+        cells = rules-kept ks ts (w .col) (w .text) (f .kind) (h .cells);
+      }
+
+pub writes-widths : (ks : List ℕ) (ts : List (List ℕ)) (ws : List Write) → All (Fits ks (map length ts)) ws → map length (written ts ws) ≡ map length ts
+unfolding written
+writes-widths ks ts [] f = refl
+writes-widths ks ts (w ∷ ws) f =
+    let e = write-widths ks ts w (f .0) in
+    writes-widths ks (set ts (w .col) (w .text)) ws (subst (λ (v : List ℕ). All (Fits ks v) ws) (sym e) (f .1)) ∙ e
+
+pub writes-kept : (ks : List ℕ) (ts : List (List ℕ)) (ws : List Write) → All (Fits ks (map length ts)) ws → RowHolds ks ts → RowHolds ks (written ts ws)
+unfolding written
+writes-kept ks ts [] f h = h
+writes-kept ks ts (w ∷ ws) f h =
+    let e = write-widths ks ts w (f .0) in
+    writes-kept ks (set ts (w .col) (w .text)) ws (subst (λ (v : List ℕ). All (Fits ks v) ws) (sym e) (f .1)) (write-kept ks ts w (f .0) h)
+
+-- ---- in an accepted file
+pub row-holds : (f : List ℕ) (t : Table) (n r : ℕ) → outcomeOf f ≡ accepted t n → r < n → RowHolds (kindsOf (t .names)) (getD (grid f) (t .line + r) [])
+row-holds f t n r e h =
+    let k = rows-kept f t n e r h in
+    let i : t .line + r < length (pieces 10 f) = omega (arith, k .line, length-drop (t .line) (pieces 10 f)) in
+    let x = getD (pieces 10 f) (t .line + r) [] in
+    let same : getD (drop (t .line) (pieces 10 f)) r [] ≡ x = getD-drop (t .line) (pieces 10 f) r [] in
+    rw (getD-mapped (pieces 10 f) (t .line + r) i)
+    record {
+      texts = clean-row x (all-at (Free 10) [] (pieces 10 f) (t .line + r) (pieces-free 10 f) i);
+      line = rw (join-pieces 44 x) (rw same at (k .bytes));
+      cells = rw same at (k .cells);
+    }
+
+-- the lines of cells of f, with texts written into line k
+abbrev pub gridWritten : List ℕ → ℕ → List Write → List (List (List ℕ))
+gridWritten f k ws = set (grid f) k (written (getD (grid f) k []) ws)
+
+module _ (f : List ℕ) (t : Table) (n r : ℕ) (e : outcomeOf f ≡ accepted t n) (h : r < n) (ws : List Write)
+    (fits : All (Fits (kindsOf (t .names)) (map length (getD (grid f) (t .line + r) []))) ws) where
+  abbrev row : List (List ℕ)
+  row = written (getD (grid f) (t .line + r) []) ws
+
+  row-still : RowHolds (kindsOf (t .names)) row
+  row-still = writes-kept (kindsOf (t .names)) (getD (grid f) (t .line + r) []) ws fits (row-holds f t n r e h)
+
+  pub grid-written : grid (ungrid (gridWritten f (t .line + r) ws)) ≡ gridWritten f (t .line + r) ws
+  grid-written = grid-ungrid (gridWritten f (t .line + r) ws) (clean-set (grid f) (t .line + r) row (clean-grid f) (row-still .texts))
+
+  pub file-written : (c : ℕ) → c < length (kindsOf (t .names)) → getD (kindsOf (t .names)) c 0 ≡ 0 → outcomeOf (ungrid (gridWritten f (t .line + r) ws)) ≡ accepted t n
+  file-written c l m =
+      let rules : rowRules (kindsOf (t .names)) (pieces 44 (join 44 row)) ≡ clean = rw (cells-row row (row-still .texts)) (row-still .cells) in
+      ap outcomeOf (ungrid-set f (t .line + r) row)
+      ∙ row-replaced f t n r (join 44 row) e h (row-free row (row-still .texts)) (row-still .line) (measured-goes-on (kindsOf (t .names)) (join 44 row) c l m rules) rules
