@@ -6,6 +6,7 @@ use mathlib.Core.Bool.{Bool, true, false, cond}
 use native.Mathlib.Omega.{arith}
 use lib.ListN.{length, getD, drop}
 use lib.Dec.{eqb, ltb}
+use borrow.Author.Tests.{eqb-false}
 use Rattle.text.specs.Cells.{pieces}
 use Rattle.exchange.specs.Faults.{Fault, clean, breaks, _then_, unless, hasAll}
 use Rattle.exchange.specs.LineRules.{lineRules, unended}
@@ -50,10 +51,11 @@ pub record RowKept (t : Table) (ps : List (List ℕ)) (r : ℕ) : Type 0 where
 pub record RowsKept (t : Table) (m : ℕ) (ps : List (List ℕ)) (u : Table) (n : ℕ) : Type 0 where
   pub table : t ≡ u
   pub more : m ≤ n
+  pub some : 1 ≤ n
   pub kept : (r : ℕ) → r < n - m → RowKept t ps r
 
-none-left : (t : Table) (m : ℕ) (ps : List (List ℕ)) (u : Table) (n : ℕ) → t ≡ u → m ≡ n → RowsKept t m ps u n
-none-left t m ps u n e d = record { table = e; more = omega arith; kept = λ r h. absurd (omega (arith, d)) }
+none-left : (t : Table) (m : ℕ) (ps : List (List ℕ)) (u : Table) (n : ℕ) → (m ≡ 0 → ⊥) → t ≡ u → m ≡ n → RowsKept t m ps u n
+none-left t m ps u n z e d = record { table = e; more = omega arith; some = omega (arith, z, d); kept = λ r h. absurd (omega (arith, d)) }
 
 pub rows-accepted : (ps : List (List ℕ)) (l : ℕ) (t : Table) (m : ℕ) (u : Table) (n : ℕ) → run l (rows t m) ps ≡ accepted u n → RowsKept t m ps u n
 unfolding run rowsStep
@@ -72,17 +74,17 @@ rows-accepted (x ∷ (y ∷ ys)) l t m u n e = by (isEndData x) refl (stops-refu
     second clean h e = e
     second (breaks a c) h e = let z : _≡_ {A = ℕ} 0 1 = cc in absurd (omega arith)
 
-    ends : (z : Bool) → run (l + 1) (cond z (stopped 19 l 1) (after t m)) (y ∷ ys) ≡ accepted u n → RowsKept t m ps u n
-    ends true e = absurd (accepted-not-refused (sym (run-stopped (l + 1) 19 l 1 (y ∷ ys)) ∙ e))
-    ends false e = let w = after-accepted (y ∷ ys) (l + 1) t m u n e in none-left t m ps u n (w .0) (w .1)
+    ends : (z : Bool) → eqb m 0 ≡ z → run (l + 1) (cond z (stopped 19 l 1) (after t m)) (y ∷ ys) ≡ accepted u n → RowsKept t m ps u n
+    ends true q e = absurd (accepted-not-refused (sym (run-stopped (l + 1) 19 l 1 (y ∷ ys)) ∙ e))
+    ends false q e = let w = after-accepted (y ∷ ys) (l + 1) t m u n e in none-left t m ps u n (eqb-false m 0 q) (w .0) (w .1)
 
     by : (z : Bool) → isEndData x ≡ z → (lineRules true x ≡ clean) × (run (l + 1) (cond z (endData l t m) (stopAt l f (rows t (m + 1)))) (y ∷ ys) ≡ accepted u n)
         → (run (l + 1) (rows t (m + 1)) (y ∷ ys) ≡ accepted u n → RowsKept t (m + 1) (y ∷ ys) u n) → RowsKept t m ps u n
-    by true q e ih = ends (eqb m 0) (e .1)
+    by true q e ih = ends (eqb m 0) refl (e .1)
     by false q e ih =
         let w = stops-refused (l + 1) 0 l f (rows t (m + 1)) (y ∷ ys) u n (e .1) in
         let k = ih (w .1) in
-        record { table = k .table; more = omega (arith, k .more); kept = λ r h. go r h k (e .0) (second (unless (ltb m 1000000) 20 1) (rowRules (kindsOf (t .names)) (pieces 44 x)) (w .0)) }
+        record { table = k .table; more = omega (arith, k .more); some = k .some; kept = λ r h. go r h k (e .0) (second (unless (ltb m 1000000) 20 1) (rowRules (kindsOf (t .names)) (pieces 44 x)) (w .0)) }
       where
         go : (r : ℕ) → r < n - m → RowsKept t (m + 1) (y ∷ ys) u n → lineRules true x ≡ clean → rowRules (kindsOf (t .names)) (pieces 44 x) ≡ clean → RowKept t ps r
         go zero h k a b = record { line = omega arith; bytes = a; cells = b }
@@ -180,10 +182,18 @@ rows-reached (x ∷ (y ∷ ys)) l p t n h e = by (step l p x) (next-step l p x h
               ∙ subst (λ (z : Table). run (l + 1) (rows z 0) (y ∷ ys) ≡ accepted t n) (w .table) e;
         }
 
--- in an accepted file every data line is there and keeps its rules
-pub rows-kept : (f : List ℕ) (t : Table) (n : ℕ) → outcomeOf f ≡ accepted t n → (r : ℕ) → r < n → RowKept t (drop (t .line) (pieces 10 f)) r
-unfolding outcomeOf
-rows-kept f t n e r h =
-    let w = rows-reached (pieces 10 f) 1 first t n tt e in
-    let k : t .line + 1 - 1 ≡ t .line = omega arith in
-    rows-accepted (drop (t .line) (pieces 10 f)) (t .line + 1) t 0 t n (subst (λ (m : ℕ). run (t .line + 1) (rows t 0) (drop m (pieces 10 f)) ≡ accepted t n) k (w .run-on)) .kept r (omega arith)
+module _ (f : List ℕ) (t : Table) (n : ℕ) (e : outcomeOf f ≡ accepted t n) where
+  data-kept : RowsKept t 0 (drop (t .line) (pieces 10 f)) t n
+  unfolding outcomeOf
+  data-kept =
+      let w = rows-reached (pieces 10 f) 1 first t n tt e in
+      let k : t .line + 1 - 1 ≡ t .line = omega arith in
+      rows-accepted (drop (t .line) (pieces 10 f)) (t .line + 1) t 0 t n (subst (λ (m : ℕ). run (t .line + 1) (rows t 0) (drop m (pieces 10 f)) ≡ accepted t n) k (w .run-on))
+
+  -- in an accepted file every data line is there and keeps its rules
+  pub rows-kept : (r : ℕ) → r < n → RowKept t (drop (t .line) (pieces 10 f)) r
+  rows-kept r h = data-kept .kept r (omega arith)
+
+  -- and there is at least one
+  pub rows-some : 1 ≤ n
+  rows-some = data-kept .some

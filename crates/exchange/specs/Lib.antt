@@ -9,6 +9,8 @@ pub mod Profiles
 pub mod Answers
 pub mod Located
 pub mod Records
+pub mod RuleOrder
+pub mod Promises
 pub mod Walks
 pub mod LineWords
 pub mod NameWords
