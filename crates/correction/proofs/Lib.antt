@@ -1,4 +1,6 @@
 pub mod ColumnLaws
+pub mod CorrectLaws
+pub mod DecideLaws
 pub mod DigitLaws
 pub mod FitLaws
 pub mod GeometryLaws

@@ -219,7 +219,7 @@ number-signed (pos n) h = rw (lt-ltb n (10 ^ 15) h)
 number-signed (negsuc n) h = rw (lt-ltb (suc n) (10 ^ 15) h)
 
 -- ---- a flag judged
-flag-in : (ctd : Bool) (v : ℕ) → inSet ctd v ≡ true → (1 ≤ v) × (v ≤ 9) × (not (ctd && eqb v 8) ≡ true)
+pub flag-in : (ctd : Bool) (v : ℕ) → inSet ctd v ≡ true → (1 ≤ v) × (v ≤ 9) × (not (ctd && eqb v 8) ≡ true)
 flag-in ctd v h =
     let a = both-true (leb 1 v && leb v 9) (not (ctd && eqb v 8)) h in
     let b = both-true (leb 1 v) (leb v 9) (a .0) in
