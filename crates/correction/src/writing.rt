@@ -82,10 +82,10 @@ fn clear(file: &mut [u8], start: usize, end: usize)
     requires { ⌜ (start ≤ end) × (end ≤ length (now file)) ⌝ }
     ensures { λ _. ⌜ now (file .exit) ≡ patch (now (file .entry)) start (replicate (end - start) 32) ⌝ }
 {
-    let mut at = end;
-    while start < at {
-        at -= 1;
-        file[at] = 32;
+    let mut i = end;
+    while start < i {
+        i -= 1;
+        file[i] = 32;
     }
 }
 
@@ -106,9 +106,8 @@ fn set_flag(file: &mut [u8], cell: Span, digit: u64)
     requires { ⌜ InCell (now file) cell (flagText digit) ⌝ }
     ensures { λ _. ⌜ now (file .exit) ≡ patch (now (file .entry)) (cell .start) (atRight (cell .len) (flagText digit)) ⌝ }
 {
-    let end = cell.start + cell.len;
-    let start = put_byte(file, end, 48 + (digit as u8));
-    clear(file, cell.start, start);
+    let place = put_byte(file, cell.start + cell.len, 48 + (digit as u8));
+    clear(file, cell.start, place);
 }
 
 // Writes the cells of a measurement: its value and, if there is one, its flag.

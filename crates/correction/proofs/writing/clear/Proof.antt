@@ -4,16 +4,16 @@ use Rattle.correction.proofs.writing.clear.Statement.{statement}
 use Rattle.correction.proofs.writing.clear.Tie as tie
 
 abbrev Inv-loop : tie.InvT-loop
-Inv-loop file₀ start end at₀ file at = Spaces file₀ end start file at
+Inv-loop file₀ start end i₀ file i = Spaces file₀ end start file i
 
 abbrev μ-loop : tie.MeasureT-loop
-μ-loop file₀ start end at₀ file at = at
+μ-loop file₀ start end i₀ file i = i
 
 loop-holds : tie.Need-loop-holds Inv-loop μ-loop
 loop-holds c = spaces-start (c .pre .1) (c .pre .0)
 
-sub-at : tie.Need-sub-at Inv-loop μ-loop
-sub-at c = omega arith
+sub-i : tie.Need-sub-i Inv-loop μ-loop
+sub-i c = omega arith
 
 slice-write-file : tie.Need-slice-write-file Inv-loop μ-loop
 slice-write-file c = let l = c .before .loop in omega (arith, l .inv .same, l .inv .put .starts)
@@ -37,7 +37,7 @@ clear-spec =
     Inv-loop
     μ-loop
     loop-holds
-    sub-at
+    sub-i
     slice-write-file
     loop-less
     loop-again

@@ -3,14 +3,14 @@ use borrow.Author.Needs.{needs}
 use Rattle.correction.proofs.writing.set_flag.Statement.{statement}
 use Rattle.correction.proofs.writing.set_flag.Tie as tie
 
-add-end : tie.Need-add-end
-add-end c = search needs
+add-put-byte : tie.Need-add-put-byte
+add-put-byte c = search needs
 
 cast-put-byte : tie.Need-cast-put-byte
 cast-put-byte c = search needs
 
-add-put-byte : tie.Need-add-put-byte
-add-put-byte c = search needs
+add-put-byte-2 : tie.Need-add-put-byte-2
+add-put-byte-2 c = search needs
 
 put-byte-requires : tie.Need-put-byte-requires
 put-byte-requires c κs = search needs
@@ -28,9 +28,9 @@ pub set-flag-spec : {M : Type 1} → statement M
 set-flag-spec =
     tie.close
     (tie.spec
-    add-end
-    cast-put-byte
     add-put-byte
+    cast-put-byte
+    add-put-byte-2
     put-byte-requires
     clear-requires
     same-length
