@@ -1,17 +1,18 @@
 -- The digits of a number: that they are digits, how many there are, and the number they write.
 use Prim.Native.Nat.{ℕ, zero, suc, _+_, _-_, _*_, _/_, _%_, _^_, _≤_, _<_}
-use mathlib.Core.Path.{_≡_, refl, sym, _∙_}
+use mathlib.Core.Path.{_≡_, refl, sym, ap, _∙_}
 use mathlib.Core.List.{List, [], _∷_, _++_}
 use mathlib.Core.Bool.{Bool, true, false, cond}
 use native.Mathlib.Nat.{pow-suc, mul-assoc}
+use native.Mathlib.Numerals.{add-one}
 use native.Mathlib.Omega.{arith}
 use lib.ListN.{length, length-append}
 use lib.Dec.{ltb}
-use borrow.Author.Tests.{ltb-true, ltb-false}
+use borrow.Author.Tests.{ltb-true, ltb-false, lt-ltb}
 use Rattle.text.specs.Bytes.{isDigit, every, numeral}
 use Rattle.text.proofs.EveryLaws.{every-cons}
 use Rattle.text.proofs.ScanLaws.{digit-yes}
-use Rattle.correction.specs.Texts.{lastDigits, wholeDigits}
+use Rattle.correction.specs.Texts.{lastDigits, wholeDigits, wholeText}
 
 -- ---- a test at every byte of two texts, and one that follows from another
 module _ (p : ℕ → Bool) where
@@ -108,3 +109,43 @@ whole-numeral (suc k) n h =
     let i : numeral 0 (wholeDigits k (n / 10)) ≡ n / 10 = whole-numeral k (n / 10) (omega arith) in
     whole-by (λ xs. numeral 0 xs ≡ n) k n (λ l. numeral-digit 0 n ∙ omega arith)
     (λ l. numeral-append 0 (wholeDigits k (n / 10)) _ ∙ numeral-digit (numeral 0 (wholeDigits k (n / 10))) n ∙ omega arith)
+
+-- ---- one digit after the other, from the right
+whole-fuel : (k n : ℕ) → n < 10 ^ suc k → wholeDigits k n ≡ wholeDigits (suc k) n
+unfolding wholeDigits
+whole-fuel zero n h = rw (lt-ltb n 10 h)
+whole-fuel (suc k) n h =
+    let p : n < 10 ^ suc k * 10 = rw pow-suc at h in
+    ap (λ (xs : List ℕ). cond (ltb n 10) ((48 + n % 10) ∷ []) (xs ++ (48 + n % 10) ∷ [])) (whole-fuel k (n / 10) (omega arith))
+
+pub whole-one : (n : ℕ) → n < 10 → length (wholeText n) ≡ 1
+unfolding wholeDigits
+whole-one n h = rw (lt-ltb n 10 h)
+
+pub whole-more : (n : ℕ) → 10 ≤ n → n < 10 ^ 20 → length (wholeText n) ≡ length (wholeText (n / 10)) + 1
+whole-more n h l = whole-by (λ xs. length xs ≡ length (wholeText (n / 10)) + 1) 18 n (λ k. absurd (omega arith))
+    (λ k. one-more (wholeDigits 18 (n / 10)) (48 + n % 10) ∙ ap (λ (xs : List ℕ). length xs + 1) (whole-fuel 18 (n / 10) (omega arith)))
+
+pub whole-few : (n : ℕ) → n < 10 ^ 20 → length (wholeText n) ≤ 20
+whole-few n h = whole-length 19 19 n h
+
+refl-last : (n : ℕ) → (48 + n % 10) ∷ [] ≡ lastDigits 1 n
+unfolding lastDigits
+refl-last n = refl
+
+snoc-last : (k n : ℕ) → lastDigits k (n / 10) ++ (48 + n % 10) ∷ [] ≡ lastDigits (suc k) n
+unfolding lastDigits
+snoc-last k n = refl
+
+-- they are the last ones, as many as there are
+whole-last-by : (k n : ℕ) → n < 10 ^ suc k → wholeDigits k n ≡ lastDigits (length (wholeDigits k n)) n
+whole-last-by zero n h = rw whole-zero (refl-last n)
+whole-last-by (suc k) n h =
+    let p : n < 10 ^ suc k * 10 = rw pow-suc at h in
+    let i : wholeDigits k (n / 10) ≡ lastDigits (length (wholeDigits k (n / 10))) (n / 10) = whole-last-by k (n / 10) (omega arith) in
+    whole-by (λ xs. xs ≡ lastDigits (length xs) n) k n (λ l. refl-last n)
+    (λ l. ap (λ (xs : List ℕ). xs ++ (48 + n % 10) ∷ []) i ∙ snoc-last (length (wholeDigits k (n / 10))) n
+    ∙ ap (λ (j : ℕ). lastDigits j n) (sym (one-more (wholeDigits k (n / 10)) (48 + n % 10) ∙ add-one _)))
+
+pub whole-last : (n : ℕ) → n < 10 ^ 20 → wholeText n ≡ lastDigits (length (wholeText n)) n
+whole-last n h = whole-last-by 19 n h

@@ -1,13 +1,13 @@
-pub mod DigitLaws
-pub mod TextLaws
-pub mod GeometryLaws
-pub mod PutLaws
-pub mod PlanLaws
-pub mod UniqueLaws
 pub mod ColumnLaws
+pub mod CorrectLaws
+pub mod DecideLaws
+pub mod DigitLaws
 pub mod FitLaws
+pub mod GeometryLaws
 pub mod KeepsLaws
 pub mod PairLaws
+pub mod PlanLaws
+pub mod PutLaws
 pub mod ReadLaws
 pub mod RecordLaws
 pub mod ExactLaws
@@ -16,3 +16,7 @@ pub mod Demand3Laws
 pub mod OneLineLaws
 pub mod FieldLaws
 pub mod ListLineLaws
+pub mod SizeLaws
+pub mod TextLaws
+pub mod UniqueLaws
+pub mod WriteLaws

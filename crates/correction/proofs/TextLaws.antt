@@ -19,6 +19,7 @@ use Rattle.text.proofs.ScanLaws.{digit-yes, digit-range}
 use Rattle.text.proofs.SpaceLaws.{isSolid, trim-solid, trim-pad-front}
 use Rattle.correction.specs.Texts.{size, isBelow, lastDigits, wholeText, fractionText, signText, numberText, flagText, atRight}
 use Rattle.correction.specs.Corrections.{inSet}
+use Rattle.correction.specs.WriteWords.{textOf}
 use Rattle.correction.proofs.DigitLaws.{every-append, every-one, every-after, every-from, numeral-append, last-length, last-digits, last-numeral, whole-digits, whole-some, whole-length, whole-numeral}
 
 -- ---- at the right of a cell
@@ -29,6 +30,18 @@ atRight-length w t h = length-append (replicate (w - length t) 32) t ∙ rw (len
 atRight-trim : (w : ℕ) (t : List ℕ) → every isSolid t ≡ true → trim (atRight w t) ≡ t
 unfolding atRight
 atRight-trim w t h = trim-pad-front (w - length t) t ∙ trim-solid t h
+
+-- ---- how long a text is
+pub fraction-none : (d n : ℕ) → d ≡ 0 → 0 ≡ length (fractionText d n)
+fraction-none d n e = rw e
+
+pub fraction-some : (d n : ℕ) → (d ≡ 0 → ⊥) → d + 1 ≡ length (fractionText d n)
+fraction-some d n f = rw (ne-eqb d 0 f) (omega (arith, last-length d (n % 1000000 / 10 ^ (6 - d))))
+
+pub text-length : (b : Bool) (n d : ℕ) → length (textOf b n d) ≡ length (signText b) + length (wholeText (n / 1000000)) + length (fractionText d n)
+text-length b n d =
+    let w = wholeText (n / 1000000) in
+    omega (arith, length-append (signText b) (w ++ fractionText d n), length-append w (fractionText d n))
 
 -- ---- the bytes of a text: digits, a point, a minus
 module _ (p : ℕ → Bool) (digits : (x : ℕ) → isDigit x ≡ true → p x ≡ true) (point : p 46 ≡ true) (minus : p 45 ≡ true) where
@@ -177,7 +190,7 @@ decimal-digits (x ∷ xs) f h k =
     let r = digit-range x (every-cons isDigit x xs h .0) in
     rw (ne-eqb x 45 (omega arith), ne-eqb x 43 (omega arith))
 
-signed-text : (b : Bool) (n d : ℕ) → d ≤ 6 → n < 10 ^ 15 → n % 10 ^ (6 - d) ≡ 0 → decimalOf (signText b ++ (wholeText (n / 1000000) ++ fractionText d n)) ≡ good b n d
+signed-text : (b : Bool) (n d : ℕ) → d ≤ 6 → n < 10 ^ 15 → n % 10 ^ (6 - d) ≡ 0 → decimalOf (textOf b n d) ≡ good b n d
 unfolding decimalOf
 signed-text true n d few small exact = unsigned-text true n d few small exact
 signed-text false n d few small exact =
@@ -186,8 +199,7 @@ signed-text false n d few small exact =
 pub number-some : (m : ℤ) (d : ℕ) → 1 ≤ length (numberText m d)
 unfolding numberText
 number-some m d =
-    let w = wholeText (size m / 1000000) in
-    omega (arith, length-append (signText (isBelow m)) (w ++ fractionText d (size m)), length-append w (fractionText d (size m)), whole-some 19 (size m / 1000000))
+    omega (arith, text-length (isBelow m) (size m) d, whole-some 19 (size m / 1000000))
 
 not-blank : (f : List ℕ → Verdict) (t : List ℕ) → 1 ≤ length t → unlessBlank f t ≡ f t
 not-blank f [] h = absurd (omega arith)
@@ -207,7 +219,7 @@ number-signed (pos n) h = rw (lt-ltb n (10 ^ 15) h)
 number-signed (negsuc n) h = rw (lt-ltb (suc n) (10 ^ 15) h)
 
 -- ---- a flag judged
-flag-in : (ctd : Bool) (v : ℕ) → inSet ctd v ≡ true → (1 ≤ v) × (v ≤ 9) × (not (ctd && eqb v 8) ≡ true)
+pub flag-in : (ctd : Bool) (v : ℕ) → inSet ctd v ≡ true → (1 ≤ v) × (v ≤ 9) × (not (ctd && eqb v 8) ≡ true)
 flag-in ctd v h =
     let a = both-true (leb 1 v && leb v 9) (not (ctd && eqb v 8)) h in
     let b = both-true (leb 1 v) (leb v 9) (a .0) in

@@ -21,6 +21,9 @@ pub record Order : Type 0 where
   pub decimals : ℕ
   pub flag : ℕ
 
+abbrev pub orderOf : ℕ → ℕ → ℤ → ℕ → ℕ → Order
+orderOf r c m d v = record { row = r; column = c; millionths = m; decimals = d; flag = v }
+
 -- ---- the refusals of a correction, each in the words of the table. The table of the file is t, with n rows.
 -- 21: no such row or column
 abbrev pub isThere : Table → ℕ → Order → Bool

@@ -2,3 +2,5 @@ pub mod Texts
 pub mod Corrections
 pub mod ListLines
 pub mod Demand3
+pub mod WriteWords
+pub mod DecideWords

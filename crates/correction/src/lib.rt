@@ -1,10 +1,14 @@
 // Corrections to an exchange file: one correction made in the lent file, and one line of a correction list.
 ghost use mathlib.Core.Path.{_≡_};
 ghost use Rattle.text.specs.Spaces.{IsPart};
+ghost use Rattle.correction.specs.Corrections.{orderOf, answerOf, correctedOf};
 ghost use Rattle.correction.specs.ListLines.{lineRead};
 use text::Span;
 
+mod deciding;
 mod lines;
+mod numbers;
+mod writing;
 
 // A correction's answer.
 pub enum Answer {
@@ -20,6 +24,52 @@ pub struct ListLine {
     pub millionths: i64,
     pub decimals: u64,
     pub flag: u64,
+}
+
+// Makes one correction in the lent file; a refused one leaves it as it is.
+pub fn correct(
+    file: &mut [u8],
+    row: u64,
+    column: u64,
+    millionths: i64,
+    decimals: u64,
+    flag: u64,
+) -> Answer
+    ensures { λ r. ⌜ r ≡ answerOf (now (file .entry)) (orderOf row column millionths decimals flag) ⌝ }
+    ensures { λ r. ⌜ now (file .exit) ≡ correctedOf (now (file .entry)) (orderOf row column millionths decimals flag) ⌝ }
+{
+    let at = exchange::locate(file, row, column);
+    if at.number != 0 {
+        return Answer::Refused {
+            number: at.number,
+            line: at.line,
+            column: at.column,
+        };
+    }
+    let number = deciding::broken_rule(
+        at,
+        millionths < 0,
+        numbers::size_of(millionths),
+        decimals,
+        flag,
+    );
+    if number != 0 {
+        return Answer::Refused {
+            number,
+            line: 0,
+            column: 0,
+        };
+    }
+    writing::write(
+        file,
+        at.value,
+        at.flagged,
+        at.flag,
+        millionths,
+        decimals,
+        flag,
+    );
+    Answer::Applied
 }
 
 // Reads one line of a correction list, with its line feed.

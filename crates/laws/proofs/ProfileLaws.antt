@@ -8,7 +8,7 @@ use lib.ListN.{length, getD, length-map, List·getD-map}
 use lib.Dec.{leb}
 use borrow.Author.Tests.{leb-true, leb-false}
 use Rattle.exchange.specs.declared.Checked.{Checked}
-use Rattle.exchange.specs.declared.Profile.{Profile}
+use Rattle.exchange.specs.declared.ProfileRecord.{ProfileRecord}
 use Rattle.exchange.specs.Columns.{Sort, bottle, ctd, kindsOf}
 use Rattle.exchange.specs.Places.{Table, accepted, outcomeOf}
 use Rattle.exchange.specs.Profiles.{Key, keyOf, labels, runCount}
@@ -52,7 +52,7 @@ labelled ctd (k ∷ ks) h = record {
 }
 
 -- ---- the record of a profile of m rows from a on
-record Shown (p : Profile) (a m : ℕ) : Type 0 where
+record Shown (p : ProfileRecord) (a m : ℕ) : Type 0 where
   number : p .number ≡ 0
   line : p .line ≡ 0
   column : p .column ≡ 0
@@ -126,7 +126,7 @@ module _ (f : List ℕ) (t : Table) (n : ℕ) (e : outcomeOf f ≡ accepted t n)
   profile-some k a b = many-some 0 k ls (file-labels .high) a (omega (arith, file-labels .top))
 
   profile-shown : (k : ℕ) → 1 ≤ k → k ≤ count → Shown (profileOf f k) (1 + below k ls) (many k ls)
-  profile-shown k a b = subst (λ (p : Profile). Shown p (1 + below k ls) (many k ls)) (sym (profile-is k)) (record-some t f (1 + below k ls) (many k ls) (profile-some k a b))
+  profile-shown k a b = subst (λ (p : ProfileRecord). Shown p (1 + below k ls) (many k ls)) (sym (profile-is k)) (record-some t f (1 + below k ls) (many k ls) (profile-some k a b))
 
   count-some : 1 ≤ count
   count-some =
@@ -138,7 +138,7 @@ module _ (f : List ℕ) (t : Table) (n : ℕ) (e : outcomeOf f ≡ accepted t n)
   known-in k h = go (leb 1 k) (leb k count) refl refl
     where
       refused-21 : profileOf f k ≡ noProfile 21 0 0 → ⊥
-      refused-21 q = omega (arith, sym h ∙ ap (λ (p : Profile). p .number) q)
+      refused-21 q = omega (arith, sym h ∙ ap (λ (p : ProfileRecord). p .number) q)
 
       go : (a b : Bool) → leb 1 k ≡ a → leb k count ≡ b → (1 ≤ k) × (k ≤ count)
       go true true p q = (leb-true 1 k p, leb-true k count q)
