@@ -116,11 +116,10 @@ module _ (f : List ℕ) (t : Table) (n r c : ℕ) (e : outcomeOf f ≡ accepted 
 
   place-cell : (t′ : List ℕ) → 1 ≤ length t′ → length t′ ≤ widthAt (shape (grid f)) line (c - 1) → InCell f (cellPlace t f r c) t′
   place-cell t′ h k =
-      let p = cellPlace t f r c in
       let l = simp (length-take, length-drop) at place-long in
       record { fits = omega (arith, place-width); inside = omega (arith, l, place-width) }
 
--- a cell that a text fills to its width is as long as the text
+-- a cell that one byte is set in is not empty
 atRight-some : (w x : ℕ) → length (atRight w (x ∷ [])) ≡ w → 1 ≤ w
 unfolding atRight
 atRight-some w x e = omega (arith, length-append (replicate (w - 1) 32) (x ∷ []), e)

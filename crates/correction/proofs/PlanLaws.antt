@@ -41,7 +41,7 @@ span-inside sh l c h = rw (lt-ltb c (length (getD sh l [])) (inside-row sh l c h
 lines-joined : (f : List ℕ) → map (join 44) (grid f) ≡ pieces 10 f
 lines-joined f = sym (lines-ungrid (grid f) (clean-grid f)) ∙ ap (pieces 10) (ungrid-grid f)
 
-place-shape : (t : Table) (f : List ℕ) (r c : ℕ) → cellPlace t f r c ≡ spanAt (shape (grid f)) (t .line + (r - 1)) (c - 1)
+pub place-shape : (t : Table) (f : List ℕ) (r c : ℕ) → cellPlace t f r c ≡ spanAt (shape (grid f)) (t .line + (r - 1)) (c - 1)
 unfolding spanIn spanAt begin
 place-shape t f r c = go (t .line + (r - 1)) (c - 1)
   where

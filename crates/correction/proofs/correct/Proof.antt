@@ -1,7 +1,7 @@
-use Rattle.correction.proofs.CorrectLaws.{answer-refused, located-here, corrected-kept, answer-broken, answer-applied, correct-writes, correct-left}
-use Rattle.correction.specs.Corrections.{orderOf}
 use mathlib.Core.Path.{sym}
 use borrow.Author.Needs.{needs}
+use Rattle.correction.specs.Corrections.{orderOf}
+use Rattle.correction.proofs.CorrectLaws.{answer-refused, located-here, corrected-kept, answer-broken, answer-applied, correct-writes, correct-left}
 use Rattle.correction.proofs.correct.Statement.{statement}
 use Rattle.correction.proofs.correct.Tie as tie
 

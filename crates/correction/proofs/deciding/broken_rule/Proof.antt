@@ -1,6 +1,6 @@
-use Rattle.correction.proofs.DecideLaws.{number-few, broken-22, broken-23, broken-24, broken-25, broken-none}
 use borrow.Author.Tests.{not-true, not-false}
 use borrow.Author.Needs.{needs}
+use Rattle.correction.proofs.DecideLaws.{number-few, broken-22, broken-23, broken-24, broken-25, broken-none}
 use Rattle.correction.proofs.deciding.broken_rule.Statement.{statement}
 use Rattle.correction.proofs.deciding.broken_rule.Tie as tie
 

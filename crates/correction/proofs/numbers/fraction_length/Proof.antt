@@ -1,6 +1,6 @@
 use native.Mathlib.Omega.{arith}
-use Rattle.correction.proofs.TextLaws.{fraction-none, fraction-some}
 use borrow.Author.Needs.{needs}
+use Rattle.correction.proofs.TextLaws.{fraction-none, fraction-some}
 use Rattle.correction.proofs.numbers.fraction_length.Statement.{statement}
 use Rattle.correction.proofs.numbers.fraction_length.Tie as tie
 

@@ -1,6 +1,6 @@
 use native.Mathlib.Omega.{arith}
-use Rattle.correction.proofs.TextLaws.{text-length}
 use borrow.Author.Needs.{needs}
+use Rattle.correction.proofs.TextLaws.{text-length}
 use Rattle.correction.proofs.numbers.text_length.Statement.{statement}
 use Rattle.correction.proofs.numbers.text_length.Tie as tie
 

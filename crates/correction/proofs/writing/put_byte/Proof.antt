@@ -1,5 +1,5 @@
-use Rattle.correction.proofs.WriteLaws.{put-none, put-byte}
 use borrow.Author.Needs.{needs}
+use Rattle.correction.proofs.WriteLaws.{put-none, put-byte}
 use Rattle.correction.proofs.writing.put_byte.Statement.{statement}
 use Rattle.correction.proofs.writing.put_byte.Tie as tie
 

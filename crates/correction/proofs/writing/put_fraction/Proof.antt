@@ -1,8 +1,8 @@
 use Prim.Native.Nat.{_/_, _%_}
 use mathlib.Core.List.{[], _∷_}
-use Rattle.correction.proofs.WriteLaws.{put-none, put-as, room-right, room-left, put-both, point-none, point-some, place-some}
-use Rattle.correction.specs.Texts.{lastDigits}
 use borrow.Author.Needs.{needs}
+use Rattle.correction.specs.Texts.{lastDigits}
+use Rattle.correction.proofs.WriteLaws.{put-none, put-as, room-right, room-left, put-both, point-none, point-some, place-some}
 use Rattle.correction.proofs.writing.put_fraction.Statement.{statement}
 use Rattle.correction.proofs.writing.put_fraction.Tie as tie
 

@@ -1,6 +1,6 @@
 use mathlib.Core.Path.{sym}
-use Rattle.correction.proofs.WriteLaws.{put-none, room-as, put-as, sign-minus, sign-none}
 use borrow.Author.Needs.{needs}
+use Rattle.correction.proofs.WriteLaws.{put-none, room-as, put-as, sign-minus, sign-none}
 use Rattle.correction.proofs.writing.put_sign.Statement.{statement}
 use Rattle.correction.proofs.writing.put_sign.Tie as tie
 

@@ -1,9 +1,9 @@
-use Rattle.correction.specs.Texts.{signText, wholeText, fractionText}
-use Rattle.correction.proofs.WriteLaws.{room-right, room-left, put-both}
+use Prim.Native.Nat.{_/_}
 use mathlib.Core.List.{_++_}
 use mathlib.Core.Path.{refl}
-use Prim.Native.Nat.{_/_}
 use borrow.Author.Needs.{needs}
+use Rattle.correction.specs.Texts.{signText, wholeText, fractionText}
+use Rattle.correction.proofs.WriteLaws.{room-right, room-left, put-both}
 use Rattle.correction.proofs.writing.put_text.Statement.{statement}
 use Rattle.correction.proofs.writing.put_text.Tie as tie
 

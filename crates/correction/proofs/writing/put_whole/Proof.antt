@@ -1,7 +1,7 @@
 use mathlib.Core.Path.{sym}
 use native.Mathlib.Omega.{arith}
-use Rattle.correction.proofs.WriteLaws.{room-as, put-as, whole-by-count}
 use borrow.Author.Needs.{needs}
+use Rattle.correction.proofs.WriteLaws.{room-as, put-as, whole-by-count}
 use Rattle.correction.proofs.writing.put_whole.Statement.{statement}
 use Rattle.correction.proofs.writing.put_whole.Tie as tie
 

@@ -1,5 +1,5 @@
-use Rattle.correction.proofs.WriteLaws.{cell-set}
 use borrow.Author.Needs.{needs}
+use Rattle.correction.proofs.WriteLaws.{cell-set}
 use Rattle.correction.proofs.writing.set_number.Statement.{statement}
 use Rattle.correction.proofs.writing.set_number.Tie as tie
 

@@ -1,5 +1,5 @@
-use Rattle.correction.proofs.WriteLaws.{cell-after, number-cell, number-set, filled-both, filled-value}
 use borrow.Author.Needs.{needs}
+use Rattle.correction.proofs.WriteLaws.{cell-after, number-cell, number-set, filled-both, filled-value}
 use Rattle.correction.proofs.writing.write.Statement.{statement}
 use Rattle.correction.proofs.writing.write.Tie as tie
 
