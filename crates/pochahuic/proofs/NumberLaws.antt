@@ -2,6 +2,7 @@
 use Prim.Native.Nat.{ℕ}
 use mathlib.Core.Path.{_≡_, refl, sym, ap, _∙_}
 use mathlib.Core.List.{List, [], _∷_}
+use lib.ListN.{getD}
 use lib.IntN.{ℤ, pos}
 use lib.Ieee.{Float, binary64, ofInt, ofBits}
 use Rattle.text.specs.declared.Reading.{Reading}
@@ -9,7 +10,14 @@ use Rattle.text.specs.declared.Reading.the-variants.{Present, Missing, Refused}
 use Rattle.exchange.specs.declared.Checked.{Checked}
 use Rattle.exchange.specs.declared.CellPlace.{CellPlace}
 use Rattle.exchange.specs.declared.Flagged.{Flagged}
-use Rattle.pochahuic.specs.Numbers.{kindNumber, checkNumbers, placeNumbers, readingCase, millionthsOf, valueOf, refusalOf, flagNumbers}
+use Rattle.exchange.specs.declared.CastTime.{CastTime}
+use Rattle.exchange.specs.declared.CastTime.the-variants.{Given, Missing as Untimed}
+use Rattle.exchange.specs.declared.ProfileRecord.{ProfileRecord}
+use Rattle.correction.specs.declared.Answer.{Answer}
+use Rattle.correction.specs.declared.Answer.the-variants.{Applied, Refused as Denied}
+use Rattle.correction.specs.declared.ListLine.{ListLine}
+use Rattle.correction.specs.Corrections.{Order, orderOf, answerOf, correctedOf, numbersOf}
+use Rattle.pochahuic.specs.Numbers.{kindNumber, checkNumbers, placeNumbers, readingCase, millionthsOf, valueOf, refusalOf, flagNumbers, timeNumbers, profileNumbers, answerNumber, lineNumbers}
 
 pub check-answered : (x y : Checked) → x ≡ y → (k : ℕ) → k ≡ kindNumber (x .kind)
     → (x .number ≡ y .number) × (x .number ∷ x .line ∷ x .column ∷ k ∷ x .columns ∷ x .rows ∷ x .profiles ∷ x .missing ∷ [] ≡ checkNumbers y)
@@ -39,3 +47,30 @@ module _ (r x : Reading) (e : r ≡ x) where
 
   pub refused-answered : (a b c : ℕ) → r ≡ Refused a b c → ReadAs x 2 (pos 0) (ofBits binary64 0) (a ∷ b ∷ c ∷ [])
   refused-answered a b c h = let is = sym h ∙ e in (ap readingCase is, (ap millionthsOf is, (nought ∙ ap valueOf is, ap refusalOf is)))
+
+-- ---- a profile, its time as three numbers
+three : (t : CastTime) (ns : List ℕ) → ns ≡ timeNumbers t → getD ns 0 0 ∷ getD ns 1 0 ∷ getD ns 2 0 ∷ [] ≡ timeNumbers t
+three (Given h m) ns e = ap (λ (l : List ℕ). getD l 0 0 ∷ getD l 1 0 ∷ getD l 2 0 ∷ []) e
+three Untimed ns e = ap (λ (l : List ℕ). getD l 0 0 ∷ getD l 1 0 ∷ getD l 2 0 ∷ []) e
+
+pub profile-answered : (x y : ProfileRecord) → x ≡ y → (ns : List ℕ) → ns ≡ timeNumbers (x .time)
+    → (x .number ≡ y .number) × (x .number ∷ x .line ∷ x .column ∷ x .first ∷ x .rows ∷ x .castno ∷ x .date ∷ getD ns 0 0 ∷ getD ns 1 0 ∷ getD ns 2 0 ∷ [] ≡ profileNumbers y)
+profile-answered x y e ns h = (
+  ap (λ (z : ProfileRecord). z .number) e,
+  ap (λ (l : List ℕ). x .number ∷ x .line ∷ x .column ∷ x .first ∷ x .rows ∷ x .castno ∷ x .date ∷ l) (three (x .time) ns h) ∙ ap profileNumbers e,
+)
+
+-- ---- a correction: the call below was given the order o, which is the order p asked for, and left the bytes g
+pub order-along : (r c : ℕ) {z m : ℤ} → z ≡ m → (d v : ℕ) → orderOf r c z d v ≡ orderOf r c m d v
+order-along r c e d v = ap (λ (i : ℤ). orderOf r c i d v) e
+
+module _ (f : List ℕ) {o p : Order} (same : o ≡ p) {r : Answer} (e : r ≡ answerOf f o) {g : List ℕ} (left : g ≡ correctedOf f o) where
+  pub applied-answered : r ≡ Applied → (0 ≡ answerNumber (answerOf f p)) × ((g ≡ correctedOf f p) × (0 ∷ 0 ∷ 0 ∷ [] ≡ numbersOf (answerOf f p)))
+  applied-answered h = let is = sym h ∙ e ∙ ap (answerOf f) same in (ap answerNumber is, (left ∙ ap (correctedOf f) same, ap numbersOf is))
+
+  pub denied-answered : (n l c : ℕ) → r ≡ Denied n l c
+      → (n ≡ answerNumber (answerOf f p)) × ((g ≡ correctedOf f p) × (n ∷ l ∷ c ∷ [] ≡ numbersOf (answerOf f p)))
+  denied-answered n l c h = let is = sym h ∙ e ∙ ap (answerOf f) same in (ap answerNumber is, (left ∙ ap (correctedOf f) same, ap numbersOf is))
+
+pub line-answered : (x y : ListLine) → x ≡ y → (z : ℤ) → z ≡ x .millionths → (x .number ≡ y .number) × ((z ≡ y .millionths) × (lineNumbers x ≡ lineNumbers y))
+line-answered x y e z same = (ap (λ (l : ListLine). l .number) e, (same ∙ ap (λ (l : ListLine). l .millionths) e, ap lineNumbers e))

@@ -2,6 +2,7 @@
 -- number, line and column first, 0 each where nothing is refused.
 use Prim.Native.Nat.{ℕ}
 use mathlib.Core.List.{List, [], _∷_}
+use lib.ListN.{getD}
 use lib.IntN.{ℤ, pos}
 use lib.Ieee.{Float, binary64, ofInt}
 use Rattle.text.specs.declared.Reading.{Reading}
@@ -11,6 +12,12 @@ use Rattle.exchange.specs.declared.FileKind.the-variants.{Unknown, Bottle, Ctd}
 use Rattle.exchange.specs.declared.Checked.{Checked}
 use Rattle.exchange.specs.declared.CellPlace.{CellPlace}
 use Rattle.exchange.specs.declared.Flagged.{Flagged}
+use Rattle.exchange.specs.declared.CastTime.{CastTime}
+use Rattle.exchange.specs.declared.CastTime.the-variants.{Given, Missing as Untimed}
+use Rattle.exchange.specs.declared.ProfileRecord.{ProfileRecord}
+use Rattle.correction.specs.declared.Answer.{Answer}
+use Rattle.correction.specs.declared.ListLine.{ListLine}
+use Rattle.correction.specs.Corrections.{numbersOf}
 
 -- ---- the check: the kind is 0 for none, 1 for a bottle file, 2 for a CTD file; then the counts
 abbrev pub kindNumber : FileKind → ℕ
@@ -49,3 +56,19 @@ refusalOf (Refused a b c) = a ∷ b ∷ c ∷ []
 -- ---- a flag
 abbrev pub flagNumbers : Flagged → List ℕ
 flagNumbers x = x .number ∷ x .line ∷ x .column ∷ x .flag ∷ []
+
+-- ---- a profile: its first row, rows, CASTNO and DATE; then 1 with the hour and the minute where its time is given, else 0
+abbrev pub timeNumbers : CastTime → List ℕ
+timeNumbers (Given h m) = 1 ∷ h ∷ m ∷ []
+timeNumbers Untimed = 0 ∷ 0 ∷ 0 ∷ []
+
+abbrev pub profileNumbers : ProfileRecord → List ℕ
+profileNumbers x = x .number ∷ x .line ∷ x .column ∷ x .first ∷ x .rows ∷ x .castno ∷ x .date ∷ timeNumbers (x .time)
+
+-- ---- a correction: the refusal alone (numbersOf of the correction crate), and its number
+abbrev pub answerNumber : Answer → ℕ
+answerNumber x = getD (numbersOf x) 0 0
+
+-- ---- a list line, which has no line and column: its number, row, the name's start in the line, counted from 0, and length, decimals as written, flag
+abbrev pub lineNumbers : ListLine → List ℕ
+lineNumbers x = x .number ∷ x .row ∷ x .name .start ∷ x .name .len ∷ x .decimals ∷ x .flag ∷ []

@@ -2,7 +2,12 @@
 // lent array, and answers the refusal number (0 where nothing is refused); a decimal answers which reading it is.
 ghost use mathlib.Core.Path.{_≡_};
 ghost use Rattle.exchange.specs.Answers.{checkedOf, placeFor, readingFor, flaggedOf};
-ghost use Rattle.pochahuic.specs.Numbers.{kindNumber, checkNumbers, placeNumbers, readingCase, millionthsOf, valueOf, refusalOf, flagNumbers};
+ghost use Rattle.exchange.specs.Records.{profileOf, stationedOf, stationAnswer};
+ghost use Rattle.correction.specs.Corrections.{orderOf, answerOf, correctedOf, numbersOf};
+ghost use Rattle.correction.specs.ListLines.{lineRead};
+ghost use Rattle.pochahuic.specs.Numbers.{kindNumber, checkNumbers, placeNumbers, readingCase, millionthsOf, valueOf, refusalOf, flagNumbers, timeNumbers, profileNumbers, answerNumber, lineNumbers};
+use correction::Answer;
+use exchange::CastTime;
 use exchange::FileKind;
 use text::Reading;
 
@@ -45,15 +50,15 @@ pub extern "C" fn pochahuic_cell(file: &[u8], row: u64, column: u64, out: &mut [
     ensures { λ r. ⌜ r ≡ placeFor (now (file .entry)) row column .number ⌝ }
     ensures { λ _. ⌜ now (out .exit) ≡ placeNumbers (placeFor (now (file .entry)) row column) ⌝ }
 {
-    let p = exchange::cell_place(file, row, column);
+    let at = exchange::cell_place(file, row, column);
     *out = [
-        p.number,
-        p.line,
-        p.column,
-        p.place.start as u64,
-        p.place.len as u64,
+        at.number,
+        at.line,
+        at.column,
+        at.place.start as u64,
+        at.place.len as u64,
     ];
-    p.number
+    at.number
 }
 
 // Reads a decimal: 0 present, 1 missing, 2 refused; the millionths and the double, and number, line, column.
@@ -105,4 +110,113 @@ pub extern "C" fn pochahuic_flag(file: &[u8], row: u64, column: u64, out: &mut [
     let f = exchange::flag(file, row, column);
     *out = [f.number, f.line, f.column, f.flag];
     f.number
+}
+
+// 1, hour and minute where a time is given, else 0 each.
+fn time_numbers(time: CastTime) -> [u64; 3]
+    ensures { λ r. ⌜ r ≡ timeNumbers time ⌝ }
+{
+    match time {
+        CastTime::Given { hour, minute } => [1, hour, minute],
+        CastTime::Missing => [0, 0, 0],
+    }
+}
+
+// The record of profile k: number, line, column, first row, rows, CASTNO, DATE, whether its time is given, hour, minute.
+#[no_mangle]
+pub extern "C" fn pochahuic_profile(file: &[u8], k: u64, out: &mut [u64; 10]) -> u64
+    ensures { λ r. ⌜ r ≡ profileOf (now (file .entry)) k .number ⌝ }
+    ensures { λ _. ⌜ now (out .exit) ≡ profileNumbers (profileOf (now (file .entry)) k) ⌝ }
+{
+    let p = exchange::profile(file, k);
+    let given = p.time;
+    let time = time_numbers(given);
+    *out = [
+        p.number,
+        p.line,
+        p.column,
+        p.first,
+        p.rows,
+        p.castno,
+        p.date,
+        time[0],
+        time[1],
+        time[2],
+    ];
+    p.number
+}
+
+// Where a station value of profile k stands, by its name: number, line, column, start, length; the start counts from 0.
+#[no_mangle]
+pub extern "C" fn pochahuic_station<'a>(
+    file: &'a [u8],
+    k: u64,
+    name: &'a [u8],
+    out: &mut [u64; 5],
+) -> u64
+    ensures { λ r. ⌜ r ≡ stationAnswer (now (file .entry)) (stationedOf (now (file .entry)) k (now (name .entry))) .number ⌝ }
+    ensures { λ _. ⌜ now (out .exit) ≡ placeNumbers (stationAnswer (now (file .entry)) (stationedOf (now (file .entry)) k (now (name .entry)))) ⌝ }
+{
+    let v = exchange::station_place(file, k, name);
+    *out = [
+        v.number,
+        v.line,
+        v.column,
+        v.place.start as u64,
+        v.place.len as u64,
+    ];
+    v.number
+}
+
+// Makes one correction in the file: number, line, column.
+#[no_mangle]
+pub extern "C" fn pochahuic_correct(
+    file: &mut [u8],
+    row: u64,
+    column: u64,
+    millionths: i64,
+    decimals: u64,
+    flag: u64,
+    out: &mut [u64; 3],
+) -> u64
+    ensures { λ r. ⌜ r ≡ answerNumber (answerOf (now (file .entry)) (orderOf row column millionths decimals flag)) ⌝ }
+    ensures { λ _. ⌜ now (file .exit) ≡ correctedOf (now (file .entry)) (orderOf row column millionths decimals flag) ⌝ }
+    ensures { λ _. ⌜ now (out .exit) ≡ numbersOf (answerOf (now (file .entry)) (orderOf row column millionths decimals flag)) ⌝ }
+{
+    let a = correction::correct(file, row, column, millionths, decimals, flag);
+    match a {
+        Answer::Applied => {
+            *out = [0, 0, 0];
+            0
+        }
+        Answer::Refused {
+            number,
+            line,
+            column: byte,
+        } => {
+            *out = [number, line, byte];
+            number
+        }
+    }
+}
+
+// Reads one line of a correction list: its millionths, and number, row, the name's start and length, decimals, flag; the start counts from 0.
+#[no_mangle]
+pub extern "C" fn pochahuic_line(line: &[u8], millionths: &mut i64, out: &mut [u64; 6]) -> u64
+    ensures { λ r. ⌜ r ≡ lineRead (now (line .entry)) .number ⌝ }
+    ensures { λ _. ⌜ now (millionths .exit) ≡ lineRead (now (line .entry)) .millionths ⌝ }
+    ensures { λ _. ⌜ now (out .exit) ≡ lineNumbers (lineRead (now (line .entry))) ⌝ }
+{
+    let l = correction::read_line(line);
+    let m = l.millionths;
+    *millionths = m;
+    *out = [
+        l.number,
+        l.row,
+        l.name.start as u64,
+        l.name.len as u64,
+        l.decimals,
+        l.flag,
+    ];
+    l.number
 }
