@@ -1,0 +1,102 @@
+/* Pochahuic for C: the proved calls of a WHP-Exchange file, on numbers and bytes.
+ *
+ * Link target/staticlib/libpochahuic.a (x86-64 Linux), which `rt staticlib pochahuic` writes. Nothing is allocated, nothing is kept between calls, and
+ * calls may be made from several threads at once as long as no two of them share a lent array or a file that one of them corrects.
+ *
+ * Every call on a file checks the whole file first. What each call answers is proved for every file and every number; what it asks of the caller is C's own:
+ * - file and length: that many bytes that can be read (written, for pochahuic_correct), no null pointer even where the length is 0;
+ * - out, millionths, value: arrays and numbers of exactly the sizes shown, which can be written and which share no byte with each other or with the file.
+ * All of out, millionths and value are written at every call; what they held before has no meaning.
+ *
+ * Lines, columns, rows and profiles count from 1; starts of parts count bytes from 0 at the file's start.
+ * out[0], out[1], out[2] are the refusal number, the line and the byte column of what is refused: 0 each where nothing is, line and column 0 for 21 to 26.
+ * A call answers out[0] again, but for pochahuic_decimal, whose answer says which reading it is.
+ */
+#ifndef POCHAHUIC_H
+#define POCHAHUIC_H
+
+#include <stddef.h>
+#include <stdint.h>
+
+#ifdef __cplusplus
+extern "C" {
+#endif
+
+/* The kind of a file, out[3] of pochahuic_check. */
+enum { POCHAHUIC_NO_KIND = 0, POCHAHUIC_BOTTLE = 1, POCHAHUIC_CTD = 2 };
+
+/* The answer of pochahuic_decimal. */
+enum { POCHAHUIC_PRESENT = 0, POCHAHUIC_MISSING = 1, POCHAHUIC_REFUSED = 2 };
+
+/* Checks a file.
+ * out[3]: its kind; [4] columns; [5] rows; [6] profiles; [7] missing readings of measured columns. All 0 where refused. */
+uint64_t pochahuic_check(const uint8_t *file, size_t length, uint64_t out[8]);
+
+/* The cell at a row and column, without the spaces at its ends: it is the out[4] bytes of the file from out[3] on. Both 0 where refused. */
+uint64_t pochahuic_cell(const uint8_t *file, size_t length, uint64_t row, uint64_t column, uint64_t out[5]);
+
+/* Reads a decimal: a measured, LATITUDE, LONGITUDE or DEPTH column. Answers which reading it is:
+ * POCHAHUIC_PRESENT: *millionths is the value in millionths, exactly, and *value the same divided once by a million, never NaN or infinite;
+ * POCHAHUIC_MISSING: the file says -999 there, so there is no number; POCHAHUIC_REFUSED: out says why.
+ * *millionths and *value are 0 unless it is present; out is 0, 0, 0 unless it is refused. */
+uint64_t pochahuic_decimal(const uint8_t *file, size_t length, uint64_t row, uint64_t column, int64_t *millionths, double *value, uint64_t out[3]);
+
+/* Reads a flag; the column is the flag column itself. out[3]: the flag, 1 to 9, or 0 where refused. */
+uint64_t pochahuic_flag(const uint8_t *file, size_t length, uint64_t row, uint64_t column, uint64_t out[4]);
+
+/* The record of profile k. out[3]: its first row; [4] rows; [5] CASTNO; [6] DATE as the number YYYYMMDD; [7] 1 where its time is given and 0 where it is
+ * missing; [8] hour; [9] minute. All 0 where refused, hour and minute where the time is missing. */
+uint64_t pochahuic_profile(const uint8_t *file, size_t length, uint64_t k, uint64_t out[10]);
+
+/* The value of profile k under a name, without the spaces at its ends: of the profile's first row in a bottle file, of the header in a CTD file.
+ * It is the out[4] bytes of the file from out[3] on; both 0 where refused. 21 too where there is no such name. */
+uint64_t pochahuic_station(const uint8_t *file, size_t length, uint64_t k, const uint8_t *name, size_t name_length, uint64_t out[5]);
+
+/* Makes one correction in the file: writes the value, with that many decimals, and the flag at the right of their cells.
+ * The flag is 0 where the column has no flag column. A refused correction changes no byte; the length never changes. */
+uint64_t pochahuic_correct(uint8_t *file, size_t length, uint64_t row, uint64_t column, int64_t millionths, uint64_t decimals, uint64_t flag, uint64_t out[3]);
+
+/* Reads one line of a correction list, with its line feed: row, column name, decimal, flag, parted by tabs.
+ * out[0]: 0 or 26; [1] row; [2] and [3] start and length of the name in the line; [4] decimals as written; [5] flag; *millionths the value. All 0 where refused. */
+uint64_t pochahuic_line(const uint8_t *line, size_t length, int64_t *millionths, uint64_t out[6]);
+
+/* What a refusal number says, in one sentence; of every other number, 0 too, the empty text. */
+static inline const char *pochahuic_message(uint64_t number)
+{
+    static const char *const messages[] = {
+        "",
+        "more than 8,192 bytes in the line",                                         /* 1 */
+        "no line feed at the end of the last line",                                  /* 2 */
+        "bytes that are no UTF-8",                                                   /* 3 */
+        "a carriage return",                                                         /* 4 */
+        "a control byte",                                                            /* 5 */
+        "a byte order mark at the start of the file",                                /* 6 */
+        "line 1 is neither BOTTLE nor CTD",                                          /* 7 */
+        "no header where one is due: no '=', a bad name or a bad NUMBER_HEADERS",    /* 8 */
+        "a name that stands there twice",                                            /* 9 */
+        "a bad column name",                                                         /* 10 */
+        "more than 256 columns",                                                     /* 11 */
+        "a flag column without its parameter",                                       /* 12 */
+        "a required name is absent",                                                 /* 13 */
+        "the file ends where a line is due",                                         /* 14 */
+        "not as many cells as there are names",                                      /* 15 */
+        "not of the kind that the column or header asks",                            /* 16 */
+        "blank where a value is asked",                                              /* 17 */
+        "a value out of its range, or a flag that is not in the set",                /* 18 */
+        "END_DATA with no data line before it",                                      /* 19 */
+        "more than 1,000,000 data lines",                                            /* 20 */
+        "no such row, column, profile or name",                                      /* 21 */
+        "the column is not of the kind that is read or corrected",                   /* 22 */
+        "more than 6 decimals, a size of 10^9 or more, or not exact in the decimals", /* 23 */
+        "a flag that is not in the set, or not 0 where there is no flag column",     /* 24 */
+        "the text is longer than its cell",                                          /* 25 */
+        "a malformed line of a correction list",                                     /* 26 */
+    };
+    return number < sizeof messages / sizeof messages[0] ? messages[number] : "";
+}
+
+#ifdef __cplusplus
+}
+#endif
+
+#endif

@@ -1,0 +1,190 @@
+"""Pochahuic from Python: the proved calls of a WHP-Exchange file, by ctypes over libpochahuic.so (bindings/python/run builds it).
+
+    import pochahuic
+    file = pochahuic.File(open("a_hy1.csv", "rb").read())      # raises Refused where the file is refused
+    file.decimal(2, file.column("SALNTY"))                      # a float, or None where the reading is missing; never NaN
+    file.correct(2, 8, 35_130_100, decimals=4, flag=2)
+    open("b_hy1.csv", "wb").write(file.bytes())
+
+Rows, columns and profiles count from 1.
+"""
+
+import ctypes
+import operator
+import os
+from collections import namedtuple
+
+MESSAGES = [
+    "",
+    "more than 8,192 bytes in the line",
+    "no line feed at the end of the last line",
+    "bytes that are no UTF-8",
+    "a carriage return",
+    "a control byte",
+    "a byte order mark at the start of the file",
+    "line 1 is neither BOTTLE nor CTD",
+    "no header where one is due: no '=', a bad name or a bad NUMBER_HEADERS",
+    "a name that stands there twice",
+    "a bad column name",
+    "more than 256 columns",
+    "a flag column without its parameter",
+    "a required name is absent",
+    "the file ends where a line is due",
+    "not as many cells as there are names",
+    "not of the kind that the column or header asks",
+    "blank where a value is asked",
+    "a value out of its range, or a flag that is not in the set",
+    "END_DATA with no data line before it",
+    "more than 1,000,000 data lines",
+    "no such row, column, profile or name",
+    "the column is not of the kind that is read or corrected",
+    "more than 6 decimals, a size of 10^9 or more, or not exact in the decimals",
+    "a flag that is not in the set, or not 0 where there is no flag column",
+    "the text is longer than its cell",
+    "a malformed line of a correction list",
+]
+
+_number, _bytes, _length = ctypes.c_uint64, ctypes.c_void_p, ctypes.c_size_t
+_millionths, _value, _out = ctypes.POINTER(ctypes.c_int64), ctypes.POINTER(ctypes.c_double), ctypes.POINTER(ctypes.c_uint64)
+
+
+def _load():
+    here = os.path.dirname(os.path.abspath(__file__))
+    path = os.environ.get("POCHAHUIC_SO", os.path.join(here, "..", "..", "target", "bindings", "libpochahuic.so"))
+    library = ctypes.CDLL(path)
+    for name, arguments in {
+        "check": [_bytes, _length, _out],
+        "cell": [_bytes, _length, _number, _number, _out],
+        "decimal": [_bytes, _length, _number, _number, _millionths, _value, _out],
+        "flag": [_bytes, _length, _number, _number, _out],
+        "profile": [_bytes, _length, _number, _out],
+        "station": [_bytes, _length, _number, _bytes, _length, _out],
+        "correct": [_bytes, _length, _number, _number, ctypes.c_int64, _number, _number, _out],
+        "line": [_bytes, _length, _millionths, _out],
+    }.items():
+        call = getattr(library, "pochahuic_" + name)
+        call.argtypes, call.restype = arguments, ctypes.c_uint64
+    return library
+
+
+_library = _load()
+
+
+class Refused(Exception):
+    """A refusal: number, line and column; line and column are 0 where the refusal has no place in the file."""
+
+    def __init__(self, number, line, column):
+        self.number, self.line, self.column = number, line, column
+        place = "line %d, column %d: " % (line, column) if line else ""
+        super().__init__("%s%s (%d)" % (place, MESSAGES[number], number))
+
+
+Checked = namedtuple("Checked", "kind columns rows profiles missing")
+Profile = namedtuple("Profile", "first rows castno date time")
+Correction = namedtuple("Correction", "row name millionths decimals flag")
+
+
+def _lent(data):
+    """The bytes in memory of their own: one byte more than there are, so that the pointer is good for an empty text too."""
+    return ctypes.create_string_buffer(data, len(data) + 1)
+
+
+def _within(least, below, *numbers):
+    """The numbers as Python's own; ctypes would cut one that does not fit to 64 bits."""
+    numbers = [operator.index(number) for number in numbers]
+    for number in numbers:
+        if not least <= number < below:
+            raise OverflowError("%d does not fit 64 bits" % number)
+    return numbers
+
+
+def _unsigned(*numbers):
+    return _within(0, 2**64, *numbers)
+
+
+class File:
+    """A file in memory, accepted by the check when it is made. For one thread at a time."""
+
+    def __init__(self, data):
+        data = bytes(data)
+        self._length, self._data = len(data), _lent(data)
+        self.check()
+
+    def bytes(self):
+        return self._data.raw[: self._length]
+
+    def _call(self, name, size, *arguments):
+        out = (ctypes.c_uint64 * size)()
+        if getattr(_library, "pochahuic_" + name)(self._data, self._length, *arguments, out) != 0:
+            raise Refused(*out[:3])
+        return out[3:]
+
+    def check(self):
+        """The kind, "BOTTLE" or "CTD", and the counts."""
+        kind, *counts = self._call("check", 8)
+        return Checked({1: "BOTTLE", 2: "CTD"}[kind], *counts)
+
+    def cell(self, row, column):
+        """The bytes of a cell, without the spaces at its ends."""
+        return self._part(*self.place(row, column))
+
+    def place(self, row, column):
+        """Where that cell stands: its start, from 0, and its length."""
+        return tuple(self._call("cell", 5, *_unsigned(row, column)))
+
+    def _part(self, start, length):
+        return self._data[start : start + length]
+
+    def millionths(self, row, column):
+        """A decimal in millionths, exactly; None where the reading is missing."""
+        return self._reading(row, column)[0]
+
+    def decimal(self, row, column):
+        """A decimal as a float; None where the reading is missing."""
+        return self._reading(row, column)[1]
+
+    def _reading(self, row, column):
+        millionths, value, out = ctypes.c_int64(), ctypes.c_double(), (ctypes.c_uint64 * 3)()
+        reading = _library.pochahuic_decimal(self._data, self._length, *_unsigned(row, column), millionths, value, out)
+        if reading == 2:
+            raise Refused(*out)
+        return (millionths.value, value.value) if reading == 0 else (None, None)
+
+    def flag(self, row, column):
+        """A flag; the column is the flag column itself."""
+        return self._call("flag", 4, *_unsigned(row, column))[0]
+
+    def profile(self, k):
+        """The record of profile k; its time is (hour, minute), or None where it is missing."""
+        first, rows, castno, date, given, hour, minute = self._call("profile", 10, *_unsigned(k))
+        return Profile(first, rows, castno, date, (hour, minute) if given else None)
+
+    def station(self, k, name):
+        """The bytes of a station value of profile k, without the spaces at its ends."""
+        name = name.encode()
+        return self._part(*self._call("station", 5, *_unsigned(k), _lent(name), len(name)))
+
+    def correct(self, row, column, millionths, decimals, flag):
+        """Makes one correction; a refused one changes nothing."""
+        self._call("correct", 3, *_unsigned(row, column), *_within(-(2**63), 2**63, millionths), *_unsigned(decimals, flag))
+
+    def names(self):
+        """The column names, from the names line, which stands two lines above row 1."""
+        data = self.bytes()
+        above = data.count(b"\n", 0, self.place(1, 1)[0])
+        return [name.strip(b" ").decode() for name in data.split(b"\n")[above - 2].split(b",")]
+
+    def column(self, name):
+        """The number of the column of that name."""
+        names = self.names()
+        if name not in names:
+            raise Refused(21, 0, 0)
+        return names.index(name) + 1
+
+
+def read_line(line):
+    """One line of a correction list, with its line feed."""
+    millionths, out = ctypes.c_int64(), (ctypes.c_uint64 * 6)()
+    if _library.pochahuic_line(_lent(line), len(line), millionths, out) != 0:
+        raise Refused(out[0], 0, 0)
+    return Correction(out[1], line[out[2] : out[2] + out[3]].decode(), millionths.value, out[4], out[5])
