@@ -28,7 +28,7 @@ kindNumber Ctd = 2
 abbrev pub checkNumbers : Checked → List ℕ
 checkNumbers x = x .number ∷ x .line ∷ x .column ∷ kindNumber (x .kind) ∷ x .columns ∷ x .rows ∷ x .profiles ∷ x .missing ∷ []
 
--- ---- a trimmed cell, by its place in the file: its start, counted from 0, and its length
+-- ---- a trimmed cell or station value, by its place in the file: its start, counted from 0, and its length
 abbrev pub placeNumbers : CellPlace → List ℕ
 placeNumbers x = x .number ∷ x .line ∷ x .column ∷ x .place .start ∷ x .place .len ∷ []
 

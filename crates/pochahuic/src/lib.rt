@@ -1,5 +1,5 @@
-// The calls for programs in other languages: numbers and bytes only. Each writes the numbers of its answer, refusal number, line and column first, into the
-// lent array, and answers the refusal number (0 where nothing is refused); a decimal answers which reading it is.
+// The calls for programs in other languages: numbers and bytes only. Each writes the numbers of its answer into the lent array, refusal number, line and column
+// first (a list line has its number alone), and answers the refusal number, 0 where nothing is refused; a decimal answers which reading it is.
 ghost use mathlib.Core.Path.{_≡_};
 ghost use Rattle.exchange.specs.Answers.{checkedOf, placeFor, readingFor, flaggedOf};
 ghost use Rattle.exchange.specs.Records.{profileOf, stationedOf, stationAnswer};
