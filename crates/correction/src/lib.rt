@@ -10,6 +10,8 @@ mod lines;
 mod numbers;
 mod writing;
 
+pub use numbers::size_of;
+
 // A correction's answer.
 pub enum Answer {
     Applied,

@@ -1,0 +1,150 @@
+// The line of a request: a word and numbers, parted by single spaces.
+ghost use Rattle.io.specs.Counts.{Counts};
+
+// What is asked.
+pub enum Call {
+    Check,
+    Cell,
+    Decimal,
+    Flag,
+    Profile,
+    Correct,
+    Line,
+    Report,
+    Unknown,
+}
+
+// Where the first word ends.
+fn word_end(head: &[u8]) -> usize
+    ensures { λ r. ⌜ Counts r (now (head .entry)) ⌝ }
+{
+    let mut n = 0;
+    while n < head.len() {
+        if head[n] == 32 {
+            return n;
+        }
+        n += 1;
+    }
+    n
+}
+
+pub fn call_of(head: &[u8]) -> Call {
+    let n = word_end(head);
+    let word = &head[..n];
+    if text::same(word, b"check") {
+        return Call::Check;
+    }
+    if text::same(word, b"cell") {
+        return Call::Cell;
+    }
+    if text::same(word, b"decimal") {
+        return Call::Decimal;
+    }
+    if text::same(word, b"flag") {
+        return Call::Flag;
+    }
+    if text::same(word, b"profile") {
+        return Call::Profile;
+    }
+    if text::same(word, b"correct") {
+        return Call::Correct;
+    }
+    if text::same(word, b"line") {
+        return Call::Line;
+    }
+    if text::same(word, b"report") {
+        return Call::Report;
+    }
+    Call::Unknown
+}
+
+// A number with one more digit, as its byte, at its end; the greatest where it is no u64.
+fn with_digit(v: u64, digit: u8) -> u64 {
+    let d = (digit % 16) as u64;
+    if 1844674407370955161 < v {
+        return 18446744073709551615;
+    }
+    let tens = v * 10;
+    if 18446744073709551615 - tens < d {
+        return 18446744073709551615;
+    }
+    tens + d
+}
+
+fn is_digit(b: u8) -> bool {
+    (48 <= b) & (b <= 57)
+}
+
+// Where word k starts, counted from 0; the end where there are not so many.
+fn word_start(head: &[u8], k: usize) -> usize {
+    let mut i = 0;
+    let mut left = k;
+    while i < head.len() {
+        if left == 0 {
+            return i;
+        }
+        if head[i] == 32 {
+            left -= 1;
+        }
+        i += 1;
+    }
+    i
+}
+
+// The number whose digits start at i.
+fn number_at(head: &[u8], from: usize) -> u64 {
+    let mut i = from;
+    let mut v: u64 = 0;
+    while i < head.len() {
+        if !is_digit(head[i]) {
+            return v;
+        }
+        v = with_digit(v, head[i]);
+        i += 1;
+    }
+    v
+}
+
+// The number in word k, counted from 0.
+pub fn number_in(head: &[u8], k: usize) -> u64 {
+    number_at(head, word_start(head, k))
+}
+
+// The number with that size and sign; the least or the greatest where it is no i64.
+fn with_sign(minus: bool, size: u64) -> i64 {
+    if 9223372036854775807 < size {
+        if minus {
+            return -9223372036854775808;
+        }
+        return 9223372036854775807;
+    }
+    if minus {
+        0 - (size as i64)
+    } else {
+        size as i64
+    }
+}
+
+// The signed number in word k.
+pub fn signed_in(head: &[u8], k: usize) -> i64 {
+    let at = word_start(head, k);
+    if at < head.len() {
+        if head[at] == 45 {
+            return with_sign(true, number_at(head, at + 1));
+        }
+    }
+    with_sign(false, number_at(head, at))
+}
+
+// The number of the last word: the length of the request's bytes.
+pub fn length_in(head: &[u8; 256]) -> u64 {
+    let mut i = 256;
+    while 0 < i {
+        let k = i - 1;
+        if head[k] == 32 {
+            return number_at(head, i);
+        }
+        i = k;
+    }
+    0
+}
