@@ -312,9 +312,9 @@ kind-fault n wrong v c e = rw e
 kind-fault n outOfRange v c e = rw e
 kind-fault n (good m x d) v c e = rw e
 
-pub kind-is : (r k : ℕ) (t ks n m : List ℕ) → r ≡ cond (eqb k 0) 11 k → k ≡ kindIn t ks n → t ≡ names → ks ≡ kinds → n ≡ m → r ≡ headerKind m
+pub kind-is : (r k : ℕ) (t ks n : List ℕ) → r ≡ cond (eqb k 0) 11 k → k ≡ kindIn t ks n → t ≡ names → ks ≡ kinds → r ≡ headerKind n
 unfolding headerKind
-kind-is r k t ks n m e ek et es en = e ∙ rw (ek, et, es, en)
+kind-is r k t ks n e ek et es = e ∙ rw (ek, et, es)
 
 module _ (s : List ℕ) (i : ℕ) (earlier : List (List ℕ)) where
   pub header-named : (h : Header) → HeaderRead (namedFault s i) s i h → (h .number ≡ 0 → ⊥) → HeaderRead (headerFault earlier s i) s i h

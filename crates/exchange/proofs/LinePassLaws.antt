@@ -1,15 +1,15 @@
 -- The line pass: plain bytes up to a line feed break no rule of a line; where another byte stands, the line feed is looked for and the rules are read one by one.
-use Prim.Native.Nat.{ℕ, zero, suc, pred, _+_, _-_, min, _≤_, _<_}
-use mathlib.Core.Path.{_≡_, refl}
+use Prim.Native.Nat.{ℕ, zero, suc, pred, _+_, _-_, _≤_, _<_}
+use mathlib.Core.Path.{_≡_, refl, sym}
 use mathlib.Core.List.{List, [], _∷_}
 use mathlib.Core.Bool.{Bool, true, false, cond, _||_, true≢false}
 use native.Mathlib.Omega.{arith}
-use lib.ListN.{length, getD, take, drop, drop-of-length-le}
+use lib.ListN.{length, getD, take, drop}
 use lib.Dec.{eqb, ltb}
 use borrow.Author.Tests.{ne-eqb, ltb-false, lt-ltb, le-ltb, le-leb, lt-leb, not-true}
 use Rattle.text.specs.declared.Found.the-variants.{At, Nowhere}
 use Rattle.text.specs.Bytes.{every}
-use Rattle.text.specs.Cells.{firstPiece, lineAt}
+use Rattle.text.specs.Cells.{lineAt}
 use Rattle.text.specs.Lines.{character, illFrom, illFormed, firstFrom, returnAt, controlAt}
 use Rattle.text.specs.Scans.{Scan}
 use Rattle.text.proofs.CellLaws.{line-in, line-end}
@@ -19,7 +19,7 @@ use Rattle.text.proofs.LineLaws as text
 use Rattle.exchange.specs.declared.lines.Line.{Line}
 use Rattle.exchange.specs.Faults.{clean, breaks}
 use Rattle.exchange.specs.LineRules.{lineRules, unended, foundFault}
-use Rattle.exchange.specs.LineWords.{isPlain, FeedFrom, byteRules}
+use Rattle.exchange.specs.LineWords.{isPlain, byteRules}
 use Rattle.exchange.specs.Walks.{lineFault, lineFor, lineOf}
 use Rattle.exchange.proofs.RunLaws.{piece-take}
 
@@ -69,41 +69,28 @@ line-plain control s i q r l h f =
     let x = lineAt s i in
     rw (w .1, lt-ltb q (length s) l, le-leb (length x) 8192 (omega arith), plain-well-formed x (w .0), plain-no-return x (w .0), plain-no-control x (w .0), cond-clean control)
 
--- ---- the line feed looked for
-module _ (s : List ℕ) (i : ℕ) (h : i < length s) where
-  pub feed-step : (getD s i 0 ≡ 10 → ⊥) → i + length (lineAt s i) ≡ i + 1 + length (lineAt s (i + 1))
-  feed-step n = rw (line-in s i h (ne-eqb (getD s i 0) 10 n)) (omega arith)
-
-line-none : (s : List ℕ) (i : ℕ) → length s ≤ i → length (lineAt s i) ≡ 0
-unfolding firstPiece
-line-none s i h = rw (drop-of-length-le s h)
-
-line-fed : (s : List ℕ) (i : ℕ) → i < length s → getD s i 0 ≡ 10 → length (lineAt s i) ≡ 0
-line-fed s i h f = rw (line-end s i h f)
-
-module _ (control : Bool) (s : List ℕ) (i e limit : ℕ) (h : i < length s) (k : limit ≡ min (length s) (i + 8193)) (f : FeedFrom s i limit e) where
-  pub odd-long : e - i ≡ 8193 → _≡_ {A = Line} (record { end = 0; number = 1; column = 8193 }) (lineOf control s i)
+-- ---- the line whose end was looked for
+module _ (control : Bool) (s : List ℕ) (i e : ℕ) (d : e ≡ i + length (lineAt s i)) where
+  pub odd-long : 8192 < e - i → _≡_ {A = Line} (record { end = 0; number = 1; column = 8193 }) (lineOf control s i)
   unfolding lineOf lineFault lineRules unended
-  odd-long z = rw (lt-leb (length (lineAt s i)) 8192 (omega (arith, f .same, f .low))) (go (ltb (i + length (lineAt s i)) (length s)))
+  odd-long z = rw (lt-leb (length (lineAt s i)) 8192 (omega arith)) (go (ltb (i + length (lineAt s i)) (length s)))
     where
       go : (b : Bool) → _≡_ {A = Line} (record { end = 0; number = 1; column = 8193 }) (lineFor (cond b (breaks 1 8193) (breaks 1 8193)) (i + length (lineAt s i)))
       go true = refl
       go false = refl
 
-  pub odd-cut : e ≡ limit → (e - i ≡ 8193 → ⊥) → _≡_ {A = Line} (record { end = 0; number = 2; column = e - i + 1 }) (lineOf control s i)
-  unfolding lineOf lineFault unended
-  odd-cut z n =
-      let a : e ≡ length s = omega (arith, f .low) in
-      let d : length (lineAt s i) ≡ e - i = omega (arith, f .same, f .low, line-none s e (omega arith)) in
-      rw (d, le-ltb (i + (e - i)) (length s) (omega (arith, f .low)), le-leb (e - i) 8192 (omega (arith, f .low)))
+  module _ (z : e - i ≤ 8192) where
+    pub odd-cut : length s ≤ e → _≡_ {A = Line} (record { end = 0; number = 2; column = e - i + 1 }) (lineOf control s i)
+    unfolding lineOf lineFault unended
+    odd-cut h =
+        let u : length (lineAt s i) ≡ e - i = omega arith in
+        rw (u, le-ltb (i + (e - i)) (length s) (omega arith), le-leb (e - i) 8192 z)
 
-  pub odd-fed : (e ≡ limit → ⊥) → lineFor (byteRules control (take (e - i) (drop i s))) e ≡ lineOf control s i
-  unfolding lineOf lineFault lineRules byteRules
-  odd-fed n =
-      let b : e < length s = omega (arith, f .high) in
-      let d : i + length (lineAt s i) ≡ e = omega (arith, f .same, line-fed s e b (f .feed n)) in
-      let u : e - i ≡ length (lineAt s i) = omega arith in
-      rw (u, piece-take, d, lt-ltb e (length s) b, le-leb (length (lineAt s i)) 8192 (omega (arith, f .high)))
+    pub odd-fed : e < length s → lineFor (byteRules control (take (e - i) (drop i s))) e ≡ lineOf control s i
+    unfolding lineOf lineFault lineRules byteRules
+    odd-fed h =
+        let u : e - i ≡ length (lineAt s i) = omega arith in
+        rw (u, piece-take, sym d, lt-ltb e (length s) h, le-leb (length (lineAt s i)) 8192 (omega arith))
 
 -- ---- rules 3, 4 and 5
 first-inside : (p : ℕ → Bool) (xs : List ℕ) (i j : ℕ) → firstFrom p i xs ≡ At j → j < i + length xs

@@ -1,17 +1,17 @@
 -- Line 1 and the comment lines: one law for each end of the code's walk.
-use Prim.Native.Nat.{ℕ, suc, _+_, _≤_, _<_}
+use Prim.Native.Nat.{ℕ, _+_, _-_, _≤_, _<_}
 use mathlib.Core.Path.{_≡_, refl, sym, ap, _∙_}
-use mathlib.Core.List.{List, [], _∷_, _++_}
-use mathlib.Core.Bool.{Bool, true, false, cond, _&&_, _||_, true≢false}
+use mathlib.Core.List.{List, [], _∷_}
+use mathlib.Core.Bool.{Bool, true, false, cond, _&&_, _||_}
 use native.Mathlib.Omega.{arith}
-use lib.ListN.{length, getD, take, drop, take-append-drop, length-append, length-take}
-use lib.Seq.{take-all, drop-cons}
+use lib.ListN.{length, getD, take, length-take}
 use lib.Dec.{eqb}
 use borrow.Author.Tests.{ne-eqb}
 use Rattle.text.specs.Bytes.{equal}
-use Rattle.text.specs.Cells.{firstPiece, laterPieces, lineAt}
+use Rattle.text.specs.Cells.{firstPiece, laterPieces, lineAt, next}
 use Rattle.text.proofs.CellLaws.{line-in}
-use Rattle.text.proofs.EqualLaws.{equal-refl, equal-same, equal-lengths}
+use Rattle.text.proofs.EqualLaws.{equal-lengths}
+use Rattle.text.proofs.SpaceLaws.{slice-take}
 use Rattle.exchange.specs.declared.lines.Line.{Line}
 use Rattle.exchange.specs.declared.top.First.{First}
 use Rattle.exchange.specs.Faults.{clean, breaks, unless}
@@ -19,57 +19,17 @@ use Rattle.exchange.specs.LineRules.{lineRules}
 use Rattle.exchange.specs.Columns.{Sort, bottle, ctd}
 use Rattle.exchange.specs.Places.{first, comments, stopped, stopAt, isMark, isBottle, isCtd, firstRules, firstStep, isComment, commentsStep, step, refused, run, outcomeOf}
 use Rattle.exchange.specs.Walks.{linesFrom, StartsAt, lineOf, sortOf, FirstRead}
-use Rattle.exchange.proofs.RunLaws.{piece-in, piece-take, run-stopped, run-line, line-clean, line-broken, line-broken-here, starts-next}
+use Rattle.exchange.proofs.CellsLaws.{cell-slice}
+use Rattle.exchange.proofs.RunLaws.{piece-take, run-stopped, run-line, line-clean, line-broken, line-broken-here, starts-next}
 
--- ---- the text before a line's first comma is a word
--- a word with no comma in it stands before what follows
-piece-append : (c : ℕ) (w z : List ℕ) → firstPiece c w ≡ w → firstPiece c (w ++ z) ≡ w ++ firstPiece c z
-unfolding firstPiece
-piece-append c [] z e = refl
-piece-append c (x ∷ w) z e = go (eqb x c) e (piece-append c w z)
-  where
-    go : (b : Bool) → cond b [] (x ∷ firstPiece c w) ≡ x ∷ w → (firstPiece c w ≡ w → firstPiece c (w ++ z) ≡ w ++ firstPiece c z)
-        → cond b [] (x ∷ firstPiece c (w ++ z)) ≡ x ∷ (w ++ firstPiece c z)
-    go true e f = let h : _≡_ {A = ℕ} 0 1 = cc in absurd (omega arith)
-    go false e f = let h : firstPiece c w ≡ w = cc in rw (f h)
+-- ---- the text before line 1's first comma
+first-word : (s : List ℕ) (q : ℕ) → q ≡ next 44 s 0 → take q s ≡ firstPiece 44 (lineAt s 0)
+first-word s q e =
+    let n : next 44 s 0 - 0 ≡ next 44 s 0 = omega arith in
+    ap (λ (k : ℕ). take k s) (e ∙ sym n) ∙ sym (slice-take 0 (next 44 s 0) s) ∙ cell-slice 44 s 0
 
-not-true-false : (b : Bool) → (b ≡ true → ⊥) → b ≡ false
-not-true-false true h = absurd (h refl)
-not-true-false false h = refl
-
-append-none : (xs : List ℕ) → xs ++ [] ≡ xs
-append-none [] = refl
-append-none (x ∷ xs) = rw (append-none xs)
-
-module _ (x w : List ℕ) where
-  pub begins-short : length x < length w → false ≡ equal (firstPiece 44 x) w
-  begins-short h = sym (equal-lengths (firstPiece 44 x) w (λ e. omega (arith, piece-in 44 x)))
-
-  pub begins-other : equal (take (length w) x) w ≡ false → false ≡ equal (firstPiece 44 x) w
-  begins-other e = sym (not-true-false _ no-way)
-    where
-      no-way : equal (firstPiece 44 x) w ≡ true → ⊥
-      no-way d =
-          let p = equal-same (firstPiece 44 x) w d in
-          let q : take (length w) x ≡ w = rw p at (piece-take 44 x) in
-          true≢false (sym (rw q (equal-refl w)) ∙ e)
-
-  module _ (f : firstPiece 44 w ≡ w) (e : equal (take (length w) x) w ≡ true) where
-    pub begins-whole : length x ≡ length w → true ≡ equal (firstPiece 44 x) w
-    begins-whole h =
-        let p : x ≡ w = sym (take-all (length w) x (omega arith)) ∙ equal-same (take (length w) x) w e in
-        rw (p, f) (sym (equal-refl w))
-
-    pub begins-comma : length w < length x → eqb (getD x (length w) 0) 44 ≡ equal (firstPiece 44 x) w
-    unfolding firstPiece
-    begins-comma h =
-        let p : x ≡ w ++ getD x (length w) 0 ∷ drop (suc (length w)) x =
-        sym (take-append-drop (length w) x) ∙ rw (equal-same (take (length w) x) w e, drop-cons x (length w) 0 h) in
-        go (eqb (getD x (length w) 0) 44) (ap (firstPiece 44) p ∙ piece-append 44 w (getD x (length w) 0 ∷ drop (suc (length w)) x) f)
-      where
-        go : (b : Bool) → firstPiece 44 x ≡ w ++ cond b [] (getD x (length w) 0 ∷ firstPiece 44 (drop (suc (length w)) x)) → b ≡ equal (firstPiece 44 x) w
-        go true d = rw (d, append-none w) (sym (equal-refl w))
-        go false d = sym (equal-lengths (firstPiece 44 x) w (λ z. omega (arith, simp length-append at (ap length d))))
+pub word-is : (s : List ℕ) (q : ℕ) → q ≡ next 44 s 0 → (w : List ℕ) (r : Bool) → r ≡ equal (take q s) w → equal (firstPiece 44 (lineAt s 0)) w ≡ r
+word-is s q e w r h = sym (h ∙ ap (λ (x : List ℕ). equal x w) (first-word s q e))
 
 -- ---- the mark of UTF-8
 pub mark-short : (x : List ℕ) → length x < 3 → false ≡ isMark x
@@ -136,12 +96,11 @@ module _ (s : List ℕ) (l : Line) (e : l ≡ lineOf true s 0) where
         let a : isMark (lineAt s 0) ≡ true = rw first-text at m in
         first-run ∙ rw (first-rules, a) (run-stopped 2 6 1 1 (linesFrom s (l .end + 1)))
 
-    module _ (m : isMark (take (l .end) s) ≡ false) (kind : ℕ) (k : kind ≡ cond (isBottle (take (l .end) s)) 1 (cond (isCtd (take (l .end) s)) 2 0)) where
+    module _ (m : isMark (take (l .end) s) ≡ false) (kind : ℕ) (b : kind ≡ cond (isBottle (lineAt s 0)) 1 (cond (isCtd (lineAt s 0)) 2 0)) where
       pub first-neither : kind ≡ 0 → outcomeOf s ≡ refused 7 1 1
       unfolding firstStep firstRules
       first-neither q =
           let a : isMark (lineAt s 0) ≡ false = rw first-text at m in
-          let b : kind ≡ cond (isBottle (lineAt s 0)) 1 (cond (isCtd (lineAt s 0)) 2 0) = rw first-text at k in
           let n = go (isBottle (lineAt s 0)) (isCtd (lineAt s 0)) (sym b ∙ q) in
           first-run ∙ rw (first-rules, a, n .0, n .1) (run-stopped 2 7 1 1 (linesFrom s (l .end + 1)))
         where
@@ -154,7 +113,6 @@ module _ (s : List ℕ) (l : Line) (e : l ≡ lineOf true s 0) where
       unfolding firstStep firstRules
       first-on q =
           let a : isMark (lineAt s 0) ≡ false = rw first-text at m in
-          let b : kind ≡ cond (isBottle (lineAt s 0)) 1 (cond (isCtd (lineAt s 0)) 2 0) = rw first-text at k in
           first-run ∙ rw (first-rules, a) (go (isBottle (lineAt s 0)) (isCtd (lineAt s 0)) b)
         where
           go : (a b : Bool) → kind ≡ cond a 1 (cond b 2 0)

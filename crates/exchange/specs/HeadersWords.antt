@@ -8,7 +8,7 @@ use Rattle.text.specs.Cells.{lineAt, pieces}
 use Rattle.exchange.specs.declared.headers.Header.{Header}
 use Rattle.exchange.specs.declared.headers.Headers.{Headers}
 use Rattle.exchange.specs.Faults.{Fault, _then_}
-use Rattle.exchange.specs.Headers.{Header as FileHeader, headerOf, rawName, nameRule, headerRules}
+use Rattle.exchange.specs.Headers.{Header as FileHeader, headerOf, rawName, nameRule, headersSaid, headerRules}
 use Rattle.exchange.specs.Grid.{starts}
 use Rattle.exchange.specs.Walks.{StartsAt, lineFault, asFault, headersAt}
 
@@ -32,6 +32,17 @@ pub record HeaderRead (f : Fault) (s : List ℕ) (i : ℕ) (r : Header) : Type 0
   pub fault : asFault (r .number) (r .column) ≡ f
   pub parted : r .number ≡ 0 → Parted s i (r .equals) (r .end)
   pub named : r .number ≡ 0 → i < r .equals
+
+-- the first header line, which starts at i and is line l, is h and says that there are n headers
+pub record Begun (s : List ℕ) (i l : ℕ) (h : Header) (n : ℕ) : Type 0 where
+  pub inside : i < length s
+  pub few : l ≤ i + 2
+  pub apart : getD s i 0 ≡ 35 → ⊥
+  pub read : HeaderRead (namedFault s i) s i h
+  pub good : h .number ≡ 0
+  pub said : n ≡ headersSaid (lineAt s i)
+  pub some : n ≡ 0 → ⊥
+  pub most : n ≤ 64
 
 -- line l, counted from 0, stands at i
 pub record LineStands (s : List ℕ) (l i : ℕ) : Type 0 where

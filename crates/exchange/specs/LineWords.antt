@@ -21,13 +21,6 @@ pub record Plain (s : List ℕ) (i limit r : ℕ) : Type 0 where
   pub high : r ≤ limit
   pub over : Scan isPlain s i r
 
--- the line that goes on at i goes on at r; a line feed stands there, or r is the limit
-pub record FeedFrom (s : List ℕ) (i limit r : ℕ) : Type 0 where
-  pub low : i ≤ r
-  pub high : r ≤ limit
-  pub same : i + length (lineAt s i) ≡ r + length (lineAt s r)
-  pub feed : (r ≡ limit → ⊥) → getD s r 0 ≡ 10
-
 -- rules 3, 4 and, where it is asked, 5
 unfoldable pub byteRules : Bool → List ℕ → Fault
 byteRules control x = foundFault 3 (illFormed x) then foundFault 4 (returnAt x) then cond control (foundFault 5 (controlAt x)) clean

@@ -159,30 +159,34 @@ fn has_required<'a>(
     }
 }
 
+// The rules of the names line whose first 256 names are good and new: 11, then 12, then 13. The line starts at `at`.
+fn good_columns(s: &[u8], at: usize, c: Cells, bottle: bool) -> Columns
+    requires { ⌜ CellsFound (now s) at c × (faultIn [] (namesAt (now s) (c .count) (c .starts) (c .ends)) 0 ≡ Clean) ⌝ }
+    ensures { λ r. ⌜ ColumnsRead (sortFor bottle) (lineAt (now (s .entry)) at) r ⌝ }
+{
+    if c.over != 0 {
+        return columns_refused(11, ((c.over - at) as u64) + 1);
+    }
+    let r = kinds_of(s, at, &c.starts, &c.ends, c.count);
+    if r.number != 0 {
+        return r;
+    }
+    if has_required(s, &c.starts, &c.ends, c.count, bottle) {
+        r
+    } else {
+        columns_refused(13, 1)
+    }
+}
+
 // The rules of the names line that starts at `at` and ends at e.
 pub fn read_columns(s: &[u8], at: usize, e: usize, bottle: bool) -> Columns
     requires { ⌜ (e < length (now s)) × (e ≡ at + length (lineAt (now s) at)) ⌝ }
     ensures { λ r. ⌜ ColumnsRead (sortFor bottle) (lineAt (now (s .entry)) at) r ⌝ }
 {
     let c = cells_of(s, at, e);
-    let starts = c.starts;
-    let ends = c.ends;
-    match first_fault(s, &starts, &ends, c.count) {
-        NameFault::Bad(k) => columns_refused(10, ((starts[k] - at) as u64) + 1),
-        NameFault::Repeated(k) => columns_refused(9, ((starts[k] - at) as u64) + 1),
-        NameFault::Clean => {
-            if c.over != 0 {
-                return columns_refused(11, ((c.over - at) as u64) + 1);
-            }
-            let r = kinds_of(s, at, &starts, &ends, c.count);
-            if r.number != 0 {
-                return r;
-            }
-            if has_required(s, &starts, &ends, c.count, bottle) {
-                r
-            } else {
-                columns_refused(13, 1)
-            }
-        }
+    match first_fault(s, &c.starts, &c.ends, c.count) {
+        NameFault::Bad(k) => columns_refused(10, ((c.starts[k] - at) as u64) + 1),
+        NameFault::Repeated(k) => columns_refused(9, ((c.starts[k] - at) as u64) + 1),
+        NameFault::Clean => good_columns(s, at, c, bottle),
     }
 }

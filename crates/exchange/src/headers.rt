@@ -1,13 +1,10 @@
 // The headers of a CTD file.
 ghost use mathlib.Core.Path.{_≡_};
-ghost use mathlib.Core.Bool.{cond};
 ghost use Prim.Native.Nat.{_+_, _≤_, _<_};
 ghost use lib.ListN.{length, getD};
-ghost use lib.Dec.{eqb};
 ghost use Rattle.text.specs.Cells.{lineAt};
-ghost use Rattle.text.specs.Catalogue.{names, kinds as kindsListed};
-ghost use Rattle.exchange.specs.Headers.{rawName, headersSaid};
-ghost use Rattle.exchange.specs.HeadersWords.{Parted, namedFault, headerFault, HeaderRead, HeadersPlaced};
+ghost use Rattle.exchange.specs.Headers.{rawName, headersSaid, headerKind};
+ghost use Rattle.exchange.specs.HeadersWords.{Parted, namedFault, headerFault, HeaderRead, Begun, HeadersPlaced};
 ghost use Rattle.exchange.specs.Walks.{namesAt, HeadersRead};
 use crate::lines::line_at;
 use crate::names::has_station;
@@ -107,10 +104,13 @@ fn headers_said(s: &[u8], at: usize, h: Header) -> usize
     v.size as usize
 }
 
-// The kind by which a header's value is judged: only the station names have one.
-fn header_kind(kind: u8) -> u8
-    ensures { λ r. ⌜ r ≡ cond (eqb kind 0) 11 kind ⌝ }
+// The kind by which the value of a header of that name is judged: only the station names have one.
+fn header_kind(name: &[u8]) -> u8
+    ensures { λ r. ⌜ r ≡ headerKind (now (name .entry)) ⌝ }
 {
+    let listed = text::catalogue_names();
+    let kinds = text::catalogue_kinds();
+    let kind = text::kind_of(&listed, &kinds, name);
     if kind == 0 { 11 } else { kind }
 }
 
@@ -121,10 +121,8 @@ fn header_line<'a>(
     starts: &'a [usize],
     ends: &'a [usize],
     count: usize,
-    listed: &'a [u8],
-    kinds: &'a [u8],
 ) -> Header
-    requires { ⌜ (at < length (now s)) × (count ≤ length (now starts)) × (count ≤ length (now ends)) × (now listed ≡ names) × (now kinds ≡ kindsListed) ⌝ }
+    requires { ⌜ (at < length (now s)) × (count ≤ length (now starts)) × (count ≤ length (now ends)) ⌝ }
     ensures { λ r. ⌜ HeaderRead (headerFault (namesAt (now (s .entry)) count (now (starts .entry)) (now (ends .entry))) (now (s .entry)) at) (now (s .entry)) at r ⌝ }
 {
     let h = named_line(s, at);
@@ -135,8 +133,7 @@ fn header_line<'a>(
     if place_of(s, starts, ends, count, name) < count {
         return header_refused(h.end, 9, 1);
     }
-    let kind = header_kind(text::kind_of(listed, kinds, name));
-    let v = text::judge(s, h.equals + 1, h.end, 10, kind);
+    let v = text::judge(s, h.equals + 1, h.end, 10, header_kind(name));
     if v.number != 0 {
         return header_refused(h.end, v.number, ((h.equals - at) as u64) + 2);
     }
@@ -157,24 +154,11 @@ fn headers_refused(line: u64, number: u64, column: u64) -> Headers
     }
 }
 
-// The header lines from the NUMBER_HEADERS line on, which starts at `start`.
-pub fn read_headers(s: &[u8], start: usize, first: u64) -> Headers
-    requires { ⌜ (start ≤ length (now s)) × (first ≤ start + 2) × ((start < length (now s) → getD (now s) start 0 ≡ 35 → ⊥)) ⌝ }
+// The header lines after the first one, h, which starts at `start` and says how many there are.
+fn more_headers(s: &[u8], start: usize, first: u64, h: Header, said: usize) -> Headers
+    requires { ⌜ Begun (now s) start first h said ⌝ }
     ensures { λ r. ⌜ HeadersRead (now (s .entry)) start first r × HeadersPlaced (now (s .entry)) start first r ⌝ }
 {
-    if s.len() <= start {
-        return headers_refused(first, 14, 1);
-    }
-    let h = named_line(s, start);
-    if h.number != 0 {
-        return headers_refused(first, h.number, h.column);
-    }
-    let said = headers_said(s, start, h);
-    if said == 0 {
-        return headers_refused(first, 8, 1);
-    }
-    let listed = text::catalogue_names();
-    let kinds = text::catalogue_kinds();
     let mut starts = [0usize; 64];
     let mut ends = [0usize; 64];
     starts[0] = start;
@@ -186,7 +170,7 @@ pub fn read_headers(s: &[u8], start: usize, first: u64) -> Headers
         if s.len() <= at {
             return headers_refused(line, 14, 1);
         }
-        let g = header_line(s, at, &starts, &ends, count, &listed, &kinds);
+        let g = header_line(s, at, &starts, &ends, count);
         if g.number != 0 {
             return headers_refused(line, g.number, g.column);
         }
@@ -209,4 +193,23 @@ pub fn read_headers(s: &[u8], start: usize, first: u64) -> Headers
     } else {
         headers_refused(line - 1, 13, 1)
     }
+}
+
+// The header lines from the NUMBER_HEADERS line on, which starts at `start`.
+pub fn read_headers(s: &[u8], start: usize, first: u64) -> Headers
+    requires { ⌜ (start ≤ length (now s)) × (first ≤ start + 2) × ((start < length (now s) → getD (now s) start 0 ≡ 35 → ⊥)) ⌝ }
+    ensures { λ r. ⌜ HeadersRead (now (s .entry)) start first r × HeadersPlaced (now (s .entry)) start first r ⌝ }
+{
+    if s.len() <= start {
+        return headers_refused(first, 14, 1);
+    }
+    let h = named_line(s, start);
+    if h.number != 0 {
+        return headers_refused(first, h.number, h.column);
+    }
+    let said = headers_said(s, start, h);
+    if said == 0 {
+        return headers_refused(first, 8, 1);
+    }
+    more_headers(s, start, first, h, said)
 }

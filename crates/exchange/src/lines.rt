@@ -4,8 +4,9 @@ ghost use mathlib.Core.Bool.{false};
 ghost use Prim.Native.Nat.{_+_, min, _≤_, _<_};
 ghost use lib.ListN.{length};
 ghost use Rattle.text.specs.Scans.{Scan};
-ghost use Rattle.exchange.specs.LineWords.{isPlain, Plain, FeedFrom, byteRules};
+ghost use Rattle.exchange.specs.LineWords.{isPlain, Plain, byteRules};
 ghost use Rattle.exchange.specs.Walks.{lineFor, lineOf};
+use crate::places::line_end;
 use text::Found;
 
 // The most bytes of a line.
@@ -91,21 +92,6 @@ fn first_odd(s: &[u8], at: usize, limit: usize) -> usize
     i
 }
 
-// The first line feed from at on and below limit; limit where there is none.
-fn feed_from(s: &[u8], at: usize, limit: usize) -> usize
-    requires { ⌜ (at ≤ limit) × (limit ≤ length (now s)) ⌝ }
-    ensures { λ r. ⌜ FeedFrom (now (s .entry)) at limit r ⌝ }
-{
-    let mut i = at;
-    while i < limit {
-        if s[i] == 10 {
-            return i;
-        }
-        i += 1;
-    }
-    i
-}
-
 // Where the search for the end of the line that starts at `at` ends: past as many bytes as a line may have, and one more.
 fn limit_of(n: usize, at: usize) -> usize
     requires { ⌜ at ≤ n ⌝ }
@@ -153,19 +139,19 @@ fn byte_rules(line: &[u8], end: usize, control: bool) -> Line
 }
 
 // A line with a byte other than 20 to 7E.
-fn odd_line(s: &[u8], at: usize, limit: usize, control: bool) -> Line
-    requires { ⌜ (at < length (now s)) × (limit ≡ min (length (now s)) (at + 8193)) ⌝ }
+fn odd_line(s: &[u8], at: usize, control: bool) -> Line
+    requires { ⌜ at < length (now s) ⌝ }
     ensures { λ r. ⌜ r ≡ lineOf control (now (s .entry)) at ⌝ }
 {
-    let e = feed_from(s, at, limit);
-    if e == limit {
-        if e - at == MOST_BYTES + 1 {
-            return Line {
-                end: 0,
-                number: 1,
-                column: 8193,
-            };
-        }
+    let e = line_end(s, at);
+    if MOST_BYTES < e - at {
+        return Line {
+            end: 0,
+            number: 1,
+            column: 8193,
+        };
+    }
+    if s.len() <= e {
         return Line {
             end: 0,
             number: 2,
@@ -191,5 +177,5 @@ pub fn line_at(s: &[u8], at: usize, control: bool) -> Line
             };
         }
     }
-    odd_line(s, at, limit, control)
+    odd_line(s, at, control)
 }

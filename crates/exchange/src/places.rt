@@ -4,7 +4,7 @@ ghost use mathlib.Core.Bool.{cond};
 ghost use Prim.Native.Nat.{_+_, _≤_};
 ghost use lib.ListN.{length, take, drop};
 ghost use lib.Dec.{eqb};
-ghost use Rattle.text.specs.Cells.{lineAt, next};
+ghost use Rattle.text.specs.Cells.{lineAt, pieces, next};
 ghost use Rattle.text.specs.Scans.{Stop};
 ghost use Rattle.exchange.specs.Grid.{lineStart, cellSpan, feedsIn, skipped};
 use text::Span;
@@ -104,6 +104,22 @@ pub fn cell_end(s: &[u8], i: usize, e: usize) -> usize
         p += 1;
     }
     p
+}
+
+// How many cells stand from i up to the line feed at e.
+pub fn cells_between(s: &[u8], i: usize, e: usize) -> usize
+    requires { ⌜ Stop 44 (now s) i e ⌝ }
+    ensures { λ r. ⌜ r ≡ length (pieces 44 (lineAt (now (s .entry)) i)) ⌝ }
+{
+    let mut n: usize = 1;
+    let mut p = i;
+    while s[p] != 10 {
+        if s[p] == 44 {
+            n += 1;
+        }
+        p += 1;
+    }
+    n
 }
 
 // The place of a cell, counted from 0 and with its spaces, of the line from `at` to its line feed at e; the empty place at the start where it has no such cell.

@@ -12,6 +12,7 @@ ghost use Rattle.exchange.specs.Profiles.{sameKey};
 ghost use Rattle.exchange.specs.Walks.{DataRead};
 ghost use Rattle.exchange.specs.RowsWords.{spanText, keyAt, KeysWithin, cellsOf, rowRefused, RowRead, dataRefused, withRow, DataHeld, LineRead};
 use crate::lines::line_at;
+use crate::places::cells_between;
 use text::Keys;
 use text::Span;
 
@@ -53,32 +54,12 @@ pub fn one(b: bool) -> u64
     if b { 1 } else { 0 }
 }
 
-fn comma(b: u8) -> usize
-    ensures { λ r. ⌜ r ≡ cond (eqb b 44) 1 0 ⌝ }
-{
-    if b == 44 { 1 } else { 0 }
-}
-
-// How many cells stand from i up to the line feed at e.
-fn cells_left(s: &[u8], i: usize, e: usize) -> usize
-    requires { ⌜ Stop 44 (now s) i e ⌝ }
-    ensures { λ r. ⌜ r ≡ length (cellsOf (now (s .entry)) i) ⌝ }
-{
-    let mut n: usize = 1;
-    let mut p = i;
-    while s[p] != 10 {
-        n += comma(s[p]);
-        p += 1;
-    }
-    n
-}
-
 // The refusal of a row at a cell, `rest` cells being due from it on: 15 comes before the cell's.
 fn refused_at(s: &[u8], start: usize, at: usize, e: usize, rest: usize, number: u64) -> Row
     requires { ⌜ Stop 44 (now s) at e ⌝ }
     ensures { λ r. ⌜ r ≡ cond (eqb (length (cellsOf (now (s .entry)) at)) rest) (rowRefused at number) (rowRefused start 15) ⌝ }
 {
-    if cells_left(s, at, e) == rest {
+    if cells_between(s, at, e) == rest {
         row_refused(at, number)
     } else {
         row_refused(start, 15)

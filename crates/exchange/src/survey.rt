@@ -2,14 +2,13 @@
 ghost use mathlib.Core.Path.{_≡_};
 ghost use Prim.Native.Nat.{_+_, _^_, _≤_, _<_};
 ghost use lib.ListN.{length};
-ghost use Rattle.text.specs.Cells.{lineAt, pieces};
-ghost use Rattle.text.specs.Scans.{Stop};
 ghost use Rattle.exchange.specs.Walks.{sortOf};
 ghost use Rattle.exchange.specs.SurveyWords.{kindsIn, TailRead, Told, RowsRead, UnitsRead, NamesRead, SurveyRead};
 use crate::columns::Columns;
 use crate::columns::read_columns;
 use crate::headers::read_headers;
 use crate::lines::line_at;
+use crate::places::cells_between;
 use crate::rows::read_data;
 use crate::top::Walk;
 use crate::top::comments;
@@ -80,22 +79,6 @@ fn tail(s: &[u8], start: usize, first: u64) -> Walk
         number: 0,
         column: 0,
     }
-}
-
-// How many cells the line from i to its line feed has.
-fn cells_between(s: &[u8], i: usize, e: usize) -> usize
-    requires { ⌜ Stop 44 (now s) i e ⌝ }
-    ensures { λ r. ⌜ r ≡ length (pieces 44 (lineAt (now (s .entry)) i)) ⌝ }
-{
-    let mut n: usize = 1;
-    let mut p = i;
-    while s[p] != 10 {
-        if s[p] == 44 {
-            n += 1;
-        }
-        p += 1;
-    }
-    n
 }
 
 // The data lines from `start` on, which is line `line`, and the lines after them.

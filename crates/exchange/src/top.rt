@@ -3,11 +3,12 @@ ghost use mathlib.Core.Path.{_≡_};
 ghost use mathlib.Core.Bool.{cond};
 ghost use Prim.Native.Nat.{_+_, _≤_};
 ghost use lib.ListN.{length};
-ghost use Rattle.text.specs.Bytes.{equal};
-ghost use Rattle.text.specs.Cells.{firstPiece};
+ghost use Rattle.text.specs.Cells.{lineAt};
+ghost use Rattle.text.specs.Scans.{Stop};
 ghost use Rattle.exchange.specs.Places.{isMark, isBottle, isCtd};
 ghost use Rattle.exchange.specs.Walks.{FirstRead, CommentsRead};
 use crate::lines::line_at;
+use crate::places::cell_end;
 
 // A place of the file: the next line starts at `at` and has that number; or the first broken rule.
 pub struct Walk {
@@ -17,35 +18,19 @@ pub struct Walk {
     pub column: u64,
 }
 
-// What line 1 says: 1 a bottle file, 2 a CTD file, 0 neither.
-pub fn kind_of_first(line: &[u8]) -> u8
-    ensures { λ r. ⌜ r ≡ cond (isBottle (now (line .entry))) 1 (cond (isCtd (now (line .entry))) 2 0) ⌝ }
+// What line 1, whose line feed stands at e, says up to its first comma: 1 a bottle file, 2 a CTD file, 0 neither.
+fn kind_of_first(s: &[u8], e: usize) -> u8
+    requires { ⌜ Stop 44 (now s) 0 e ⌝ }
+    ensures { λ r. ⌜ r ≡ cond (isBottle (lineAt (now (s .entry)) 0)) 1 (cond (isCtd (lineAt (now (s .entry)) 0)) 2 0) ⌝ }
 {
-    if begins(line, b"BOTTLE") {
+    let q = cell_end(s, 0, e);
+    if text::same(&s[..q], b"BOTTLE") {
         return 1;
     }
-    if begins(line, b"CTD") {
+    if text::same(&s[..q], b"CTD") {
         return 2;
     }
     0
-}
-
-// Whether the line is the word, or the word and a comma and anything.
-fn begins<'a>(line: &'a [u8], word: &'a [u8]) -> bool
-    requires { ⌜ firstPiece 44 (now word) ≡ now word ⌝ }
-    ensures { λ r. ⌜ r ≡ equal (firstPiece 44 (now (line .entry))) (now (word .entry)) ⌝ }
-{
-    let n = word.len();
-    if line.len() < n {
-        return false;
-    }
-    if !text::same(&line[..n], word) {
-        return false;
-    }
-    if line.len() == n {
-        return true;
-    }
-    line[n] == 44
 }
 
 fn is_mark(line: &[u8]) -> bool
@@ -90,7 +75,7 @@ pub fn first_line(s: &[u8]) -> First
     if is_mark(&s[..e]) {
         return first_refused(6, 1);
     }
-    let kind = kind_of_first(&s[..e]);
+    let kind = kind_of_first(s, e);
     if kind == 0 {
         return first_refused(7, 1);
     }

@@ -1,6 +1,8 @@
+use mathlib.Core.Path.{ap, _∙_}
 use native.Mathlib.Omega.{arith}
+use Rattle.exchange.specs.Headers.{headerKind}
 use Rattle.exchange.specs.Walks.{namesAt}
-use Rattle.exchange.proofs.HeaderLaws.{names-length, kind-is, header-named, name-is, header-known, header-value, header-good}
+use Rattle.exchange.proofs.HeaderLaws.{names-length, header-named, name-is, header-known, header-value, header-good}
 use borrow.Author.Needs.{needs}
 use Rattle.exchange.proofs.headers.header_line.Statement.{statement}
 use Rattle.exchange.proofs.headers.header_line.Tie as tie
@@ -11,7 +13,7 @@ named-line-requires c κs = search needs
 returns : tie.Need-returns
 returns c =
     let h = c .before .before in
-    let st = h .before .before .before .before .before .before in
+    let st = h .before .before .before .before in
     let a = st .args in
     header-named (a .s .now) (a .at) (namesAt (a .s .now) (a .count) (a .starts .now) (a .ends .now)) _ (h .named-line .ensures) (c .if1 .taken)
 
@@ -29,7 +31,7 @@ returns-2 c =
     let p = c .before .before in
     let t = p .before in
     let h = t .before .before .before in
-    let st = h .before .before .before .before .before .before in
+    let st = h .before .before .before .before in
     let a = st .args in
     let ns = namesAt (a .s .now) (a .count) (a .starts .now) (a .ends .now) in
     let z = t .before .if1 .left in
@@ -37,32 +39,29 @@ returns-2 c =
     header-known (a .s .now) (a .at) ns _ (h .named-line .ensures) z _ (t .trimmed .ensures .content) _ _ (p .place-of .ensures .0) n
     _ (c .header-refused .ensures) (c .before .if2 .taken)
 
-kind-of-requires : tie.Need-kind-of-requires
-kind-of-requires c κs = search needs
-
-header-kind-requires : tie.Need-header-kind-requires
-header-kind-requires c κs = search needs
-
 add-judge : tie.Need-add-judge
 add-judge c =
-    let t = c .before .before .before .before .before in
+    let t = c .before .before .before in
     let h = t .before .before .before in
     let w = h .named-line .ensures .parted (t .before .if1 .left) in
     omega (arith, w .before, w .room)
+
+header-kind-requires : tie.Need-header-kind-requires
+header-kind-requires c κs = search needs
 
 judge-requires : tie.Need-judge-requires
 judge-requires c κs = search needs
 
 sub-header-refused : tie.Need-sub-header-refused
 sub-header-refused c =
-    let t = c .before .before .before .before .before .before .before .before .before in
+    let t = c .before .before .before .before .before .before .before .before in
     let h = t .before .before .before in
     let w = h .named-line .ensures .parted (t .before .if1 .left) in
     omega (arith, w .equals)
 
 add-header-refused : tie.Need-add-header-refused
 add-header-refused c =
-    let t = c .before .before .before .before .before .before .before .before .before in
+    let t = c .before .before .before .before .before .before .before .before in
     let h = t .before .before .before in
     let w = h .named-line .ensures .parted (t .before .if1 .left) in
     omega (arith, w .equals, w .before, w .short)
@@ -73,34 +72,32 @@ header-refused-requires-2 c κs = search needs
 returns-3 : tie.Need-returns-3
 returns-3 c =
     let j = c .before .before .before .before in
-    let p = j .before .before .before .before .before in
+    let p = j .before .before .before .before in
     let t = p .before in
     let h = t .before .before .before in
-    let st = h .before .before .before .before .before .before in
+    let st = h .before .before .before .before in
     let a = st .args in
     let ns = namesAt (a .s .now) (a .count) (a .starts .now) (a .ends .now) in
     let z = t .before .if1 .left in
     let n = names-length (a .s .now) (a .count) (a .starts .now) (a .ends .now) (st .pre .1) (st .pre .2) in
-    let k = kind-is _ _ _ _ _ _ (j .before .before .header-kind .ensures) (j .before .before .before .kind-of .ensures) (st .pre .3) (st .pre .4)
-    (name-is (a .s .now) (a .at) ns _ (h .named-line .ensures) z _ (t .trimmed .ensures .content) _ _ (p .place-of .ensures .0) n) in
+    let k = j .before .header-kind .ensures ∙ ap headerKind (name-is (a .s .now) (a .at) ns _ (h .named-line .ensures) z _ (t .trimmed .ensures .content) _ _ (p .place-of .ensures .0) n) in
     header-value (a .s .now) (a .at) ns _ (h .named-line .ensures) z _ (t .trimmed .ensures .content) _ _ (p .place-of .ensures .0) n
-    (j .before .before .before .before .if2 .left) _ k _ (j .judge .ensures) _ (c .header-refused2 .ensures) (c .before .before .if3 .taken)
+    (j .before .before .before .if2 .left) _ k _ (j .judge .ensures) _ (c .header-refused2 .ensures) (c .before .before .if3 .taken)
 
 returns-4 : tie.Need-returns-4
 returns-4 c =
     let j = c .before .before in
-    let p = j .before .before .before .before .before in
+    let p = j .before .before .before .before in
     let t = p .before in
     let h = t .before .before .before in
-    let st = h .before .before .before .before .before .before in
+    let st = h .before .before .before .before in
     let a = st .args in
     let ns = namesAt (a .s .now) (a .count) (a .starts .now) (a .ends .now) in
     let z = t .before .if1 .left in
     let n = names-length (a .s .now) (a .count) (a .starts .now) (a .ends .now) (st .pre .1) (st .pre .2) in
-    let k = kind-is _ _ _ _ _ _ (j .before .before .header-kind .ensures) (j .before .before .before .kind-of .ensures) (st .pre .3) (st .pre .4)
-    (name-is (a .s .now) (a .at) ns _ (h .named-line .ensures) z _ (t .trimmed .ensures .content) _ _ (p .place-of .ensures .0) n) in
+    let k = j .before .header-kind .ensures ∙ ap headerKind (name-is (a .s .now) (a .at) ns _ (h .named-line .ensures) z _ (t .trimmed .ensures .content) _ _ (p .place-of .ensures .0) n) in
     header-good (a .s .now) (a .at) ns _ (h .named-line .ensures) z _ (t .trimmed .ensures .content) _ _ (p .place-of .ensures .0) n
-    (j .before .before .before .before .if2 .left) _ k _ (j .judge .ensures) (c .if3 .left)
+    (j .before .before .before .if2 .left) _ k _ (j .judge .ensures) (c .if3 .left)
 
 pub header-line-spec : {M : Type 1} → statement M
 header-line-spec =
@@ -112,9 +109,8 @@ header-line-spec =
     place-of-requires
     header-refused-requires
     returns-2
-    kind-of-requires
-    header-kind-requires
     add-judge
+    header-kind-requires
     judge-requires
     sub-header-refused
     add-header-refused

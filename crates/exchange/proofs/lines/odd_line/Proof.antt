@@ -4,32 +4,23 @@ use borrow.Author.Needs.{needs}
 use Rattle.exchange.proofs.lines.odd_line.Statement.{statement}
 use Rattle.exchange.proofs.lines.odd_line.Tie as tie
 
-feed-from-requires : tie.Need-feed-from-requires
-feed-from-requires c κs = search needs
+line-end-requires : tie.Need-line-end-requires
+line-end-requires c κs = search needs
 
-sub-if2 : tie.Need-sub-if2
-sub-if2 c = search needs
-
-add-if2 : tie.Need-add-if2
-add-if2 c = search needs
+sub-if1 : tie.Need-sub-if1
+sub-if1 c = search needs
 
 returns : tie.Need-returns
-returns c =
-    let a = c .before .before in
-    let st = a .before .before in
-    odd-long _ _ _ _ _ (st .pre .0) (st .pre .1) (a .feed-from .ensures) (c .if2 .taken)
+returns c = odd-long _ _ _ _ (c .before .line-end .ensures) (c .if1 .taken)
 
 sub-t7 : tie.Need-sub-t7
 sub-t7 c = search needs
 
-add-t11 : tie.Need-add-t11
-add-t11 c = search needs
+add-t9 : tie.Need-add-t9
+add-t9 c = search needs
 
 returns-2 : tie.Need-returns-2
-returns-2 c =
-    let a = c .before .before in
-    let st = a .before .before in
-    odd-cut _ _ _ _ _ (st .pre .0) (st .pre .1) (a .feed-from .ensures) (c .before .if1 .taken) (c .if2 .left)
+returns-2 c = odd-cut _ _ _ _ (c .before .before .line-end .ensures) (c .before .if1 .left) (c .if2 .taken)
 
 sub-byte-rules : tie.Need-sub-byte-rules
 sub-byte-rules c = search needs
@@ -44,21 +35,17 @@ byte-rules-requires : tie.Need-byte-rules-requires
 byte-rules-requires c κs = search needs
 
 returns-3 : tie.Need-returns-3
-returns-3 c =
-    let a = c .before .before .before in
-    let st = a .before .before in
-    c .byte-rules .ensures ∙ odd-fed _ _ _ _ _ (st .pre .0) (st .pre .1) (a .feed-from .ensures) (c .before .before .if1 .left)
+returns-3 c = c .byte-rules .ensures ∙ odd-fed _ _ _ _ (c .before .before .before .before .line-end .ensures) (c .before .before .before .if1 .left) (c .before .before .if2 .left)
 
 pub odd-line-spec : {M : Type 1} → statement M
 odd-line-spec =
     tie.close
     (tie.spec
-    feed-from-requires
-    sub-if2
-    add-if2
+    line-end-requires
+    sub-if1
     returns
     sub-t7
-    add-t11
+    add-t9
     returns-2
     sub-byte-rules
     part-byte-rules-start

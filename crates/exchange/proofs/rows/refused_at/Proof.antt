@@ -6,8 +6,8 @@ use Rattle.exchange.specs.RowsWords.{cellsOf}
 use Rattle.exchange.proofs.rows.refused_at.Statement.{statement}
 use Rattle.exchange.proofs.rows.refused_at.Tie as tie
 
-cells-left-requires : tie.Need-cells-left-requires
-cells-left-requires c κs = search needs
+cells-between-requires : tie.Need-cells-between-requires
+cells-between-requires c κs = search needs
 
 row-refused-requires : tie.Need-row-refused-requires
 row-refused-requires c κs = search needs
@@ -19,15 +19,15 @@ returns : tie.Need-returns
 returns c =
     let b = c .before .before in
     let a = b .before .before .args in
-    c .row-refused .ensures ∙ rw (eq-eqb (length (cellsOf (a .s .now) (a .at))) (a .rest) (sym (b .cells-left .ensures) ∙ c .before .if1 .taken))
+    c .row-refused .ensures ∙ rw (eq-eqb (length (cellsOf (a .s .now) (a .at))) (a .rest) (sym (b .cells-between .ensures) ∙ c .before .if1 .taken))
 
 returns-2 : tie.Need-returns-2
 returns-2 c =
     let b = c .before .before in
     let a = b .before .before .args in
-    c .row-refused2 .ensures ∙ rw (ne-eqb (length (cellsOf (a .s .now) (a .at))) (a .rest) (λ z. c .before .if1 .left (b .cells-left .ensures ∙ z)))
+    c .row-refused2 .ensures ∙ rw (ne-eqb (length (cellsOf (a .s .now) (a .at))) (a .rest) (λ z. c .before .if1 .left (b .cells-between .ensures ∙ z)))
 
 pub refused-at-spec : {M : Type 1} → statement M
 refused-at-spec =
     tie.close
-    (tie.spec cells-left-requires row-refused-requires row-refused-requires-2 returns returns-2)
+    (tie.spec cells-between-requires row-refused-requires row-refused-requires-2 returns returns-2)

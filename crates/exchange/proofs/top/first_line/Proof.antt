@@ -1,6 +1,7 @@
 use mathlib.Core.Path.{refl, sym, _∙_}
 use native.Mathlib.Omega.{arith}
 use lib.Seq.{length-take-le}
+use Rattle.exchange.proofs.SurveyLaws.{line-stops}
 use Rattle.exchange.proofs.TopLaws.{first-none, first-broken, first-room, first-marked, first-neither, first-on, first-counted, first-stopped}
 use borrow.Author.Needs.{needs}
 use Rattle.exchange.proofs.top.first_line.Statement.{statement}
@@ -42,14 +43,11 @@ returns-3 c =
     first-stopped _ _ _ _ (c .first-refused3 .ensures .0) (c .first-refused3 .ensures .1) (λ z. omega arith)
     (first-marked _ _ (a .line-at .ensures) (m .before .before .if2 .left) (sym (m .is-mark .ensures) ∙ c .before .if3 .taken))
 
-slice-aggregate-kind-of-first : tie.Need-slice-aggregate-kind-of-first
-slice-aggregate-kind-of-first c =
-    let m = c .before .before in
-    let a = m .before .before .before .before in
-    sym (length-take-le _ (a .before .before .before .args .s .now) (omega (arith, first-room _ _ (a .line-at .ensures) (m .before .before .if2 .left))))
-
 kind-of-first-requires : tie.Need-kind-of-first-requires
-kind-of-first-requires c κs = search needs
+kind-of-first-requires c κs =
+    let m = c .before in
+    let a = m .before .before .before .before in
+    line-stops _ _ _ _ (a .line-at .ensures) (m .before .before .if2 .left)
 
 first-refused-requires-4 : tie.Need-first-refused-requires-4
 first-refused-requires-4 c κs = search needs
@@ -57,27 +55,27 @@ first-refused-requires-4 c κs = search needs
 returns-4 : tie.Need-returns-4
 returns-4 c =
     let k = c .before .before in
-    let m = k .before .before .before in
+    let m = k .before .before in
     let a = m .before .before .before .before in
     first-stopped _ _ _ _ (c .first-refused4 .ensures .0) (c .first-refused4 .ensures .1) (λ z. omega arith)
-    (first-neither _ _ (a .line-at .ensures) (m .before .before .if2 .left) (sym (m .is-mark .ensures) ∙ k .before .before .if3 .left) _ (k .kind-of-first .ensures) (c .before .if4 .taken))
+    (first-neither _ _ (a .line-at .ensures) (m .before .before .if2 .left) (sym (m .is-mark .ensures) ∙ k .before .if3 .left) _ (k .kind-of-first .ensures) (c .before .if4 .taken))
 
 add-t5 : tie.Need-add-t5
 add-t5 c =
-    let m = c .before .before .before .before in
+    let m = c .before .before .before in
     let a = m .before .before .before .before in
     omega (arith, first-room _ _ (a .line-at .ensures) (m .before .before .if2 .left))
 
 returns-5 : tie.Need-returns-5
 returns-5 c =
     let k = c .before in
-    let m = k .before .before .before in
+    let m = k .before .before in
     let a = m .before .before .before .before in
     record {
       stop = λ z. absurd (z refl);
       on = λ z. (
         omega (arith, first-room _ _ (a .line-at .ensures) (m .before .before .if2 .left)),
-        first-on _ _ (a .line-at .ensures) (m .before .before .if2 .left) (sym (m .is-mark .ensures) ∙ k .before .before .if3 .left) _ (k .kind-of-first .ensures) (c .if4 .left),
+        first-on _ _ (a .line-at .ensures) (m .before .before .if2 .left) (sym (m .is-mark .ensures) ∙ k .before .if3 .left) _ (k .kind-of-first .ensures) (c .if4 .left),
       );
       counted = λ z. first-counted _ _ (a .line-at .ensures) (m .before .before .if2 .left);
     }
@@ -95,7 +93,6 @@ first-line-spec =
     is-mark-requires
     first-refused-requires-3
     returns-3
-    slice-aggregate-kind-of-first
     kind-of-first-requires
     first-refused-requires-4
     returns-4

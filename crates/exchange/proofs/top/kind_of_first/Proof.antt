@@ -1,55 +1,83 @@
-use mathlib.Core.Path.{_≡_, refl, sym, _∙_}
+use mathlib.Core.Path.{_≡_, sym, _∙_}
 use mathlib.Core.Bool.{true, false}
-use Rattle.text.specs.Cells.{firstPiece}
+use native.Mathlib.Omega.{arith}
+use lib.Seq.{length-take-le}
+use Rattle.text.specs.Bytes.{bytes}
+use Rattle.text.specs.Cells.{lineAt}
 use Rattle.exchange.specs.Places.{isBottle, isCtd}
+use Rattle.exchange.proofs.TopLaws.{word-is}
 use borrow.Author.Needs.{needs}
 use Rattle.exchange.proofs.top.kind_of_first.Statement.{statement}
 use Rattle.exchange.proofs.top.kind_of_first.Tie as tie
 
-slice-aggregate-begins : tie.Need-slice-aggregate-begins
-slice-aggregate-begins c = search needs
+cell-end-requires : tie.Need-cell-end-requires
+cell-end-requires c κs = search needs
 
-begins-requires : tie.Need-begins-requires
-unfolding firstPiece
-begins-requires c κs = refl
+slice-aggregate-same : tie.Need-slice-aggregate-same
+slice-aggregate-same c =
+    let q = c .before in
+    let st = q .before .before in
+    sym (length-take-le _ (st .args .s .now) (omega (arith, q .cell-end .ensures .2, st .pre .room)))
+
+slice-aggregate-same-2 : tie.Need-slice-aggregate-same-2
+slice-aggregate-same-2 c = search needs
+
+same-requires : tie.Need-same-requires
+same-requires c κs = search needs
 
 returns : tie.Need-returns
 returns c =
-    let a = c .before in
-    let e : isBottle (a .before .before .before .args .line .now) ≡ true = sym (a .begins .ensures) ∙ c .if1 .taken in
+    let m = c .before in
+    let q = m .before .before .before in
+    let s = q .before .before .args .s .now in
+    let e : isBottle (lineAt s 0) ≡ true = word-is s _ (q .cell-end .ensures .0) (bytes "BOTTLE") _ (m .same .ensures) ∙ c .if1 .taken in
     rw e
 
-slice-aggregate-begins-2 : tie.Need-slice-aggregate-begins-2
-slice-aggregate-begins-2 c = search needs
+slice-aggregate-same-3 : tie.Need-slice-aggregate-same-3
+slice-aggregate-same-3 c =
+    let q = c .before .before .before .before .before in
+    let st = q .before .before in
+    sym (length-take-le _ (st .args .s .now) (omega (arith, q .cell-end .ensures .2, st .pre .room)))
 
-begins-requires-2 : tie.Need-begins-requires-2
-unfolding firstPiece
-begins-requires-2 c κs = refl
+slice-aggregate-same-4 : tie.Need-slice-aggregate-same-4
+slice-aggregate-same-4 c = search needs
+
+same-requires-2 : tie.Need-same-requires-2
+same-requires-2 c κs = search needs
 
 returns-2 : tie.Need-returns-2
 returns-2 c =
-    let a = c .before in
-    let b = a .before .before .before in
-    let e : isBottle (b .before .before .before .args .line .now) ≡ false = sym (b .begins .ensures) ∙ a .before .before .if1 .left in
-    let f : isCtd (b .before .before .before .args .line .now) ≡ true = sym (a .begins2 .ensures) ∙ c .if2 .taken in
+    let n = c .before in
+    let i = n .before .before .before in
+    let m = i .before in
+    let q = m .before .before .before in
+    let s = q .before .before .args .s .now in
+    let e : isBottle (lineAt s 0) ≡ false = word-is s _ (q .cell-end .ensures .0) (bytes "BOTTLE") _ (m .same .ensures) ∙ i .if1 .left in
+    let f : isCtd (lineAt s 0) ≡ true = word-is s _ (q .cell-end .ensures .0) (bytes "CTD") _ (n .same2 .ensures) ∙ c .if2 .taken in
     rw (e, f)
 
 returns-3 : tie.Need-returns-3
 returns-3 c =
-    let a = c .before in
-    let b = a .before .before .before in
-    let e : isBottle (b .before .before .before .args .line .now) ≡ false = sym (b .begins .ensures) ∙ a .before .before .if1 .left in
-    let f : isCtd (b .before .before .before .args .line .now) ≡ false = sym (a .begins2 .ensures) ∙ c .if2 .left in
+    let n = c .before in
+    let i = n .before .before .before in
+    let m = i .before in
+    let q = m .before .before .before in
+    let s = q .before .before .args .s .now in
+    let e : isBottle (lineAt s 0) ≡ false = word-is s _ (q .cell-end .ensures .0) (bytes "BOTTLE") _ (m .same .ensures) ∙ i .if1 .left in
+    let f : isCtd (lineAt s 0) ≡ false = word-is s _ (q .cell-end .ensures .0) (bytes "CTD") _ (n .same2 .ensures) ∙ c .if2 .left in
     rw (e, f)
 
 pub kind-of-first-spec : {M : Type 1} → statement M
 kind-of-first-spec =
     tie.close
     (tie.spec
-    slice-aggregate-begins
-    begins-requires
+    cell-end-requires
+    slice-aggregate-same
+    slice-aggregate-same-2
+    same-requires
     returns
-    slice-aggregate-begins-2
-    begins-requires-2
+    slice-aggregate-same-3
+    slice-aggregate-same-4
+    same-requires-2
     returns-2
     returns-3)

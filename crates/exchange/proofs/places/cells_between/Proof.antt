@@ -7,8 +7,8 @@ use lib.ListN.{length}
 use Rattle.text.specs.Cells.{pieces, lineAt}
 use Rattle.text.proofs.CellLaws.{stop-moved, stop-short, count-end}
 use Rattle.exchange.proofs.SurveyLaws.{count-comma, count-other}
-use Rattle.exchange.proofs.survey.cells_between.Statement.{statement}
-use Rattle.exchange.proofs.survey.cells_between.Tie as tie
+use Rattle.exchange.proofs.places.cells_between.Statement.{statement}
+use Rattle.exchange.proofs.places.cells_between.Tie as tie
 
 abbrev Inv-loop : tie.InvT-loop
 Inv-loop s i e n₀ p₀ n p = (i ≤ p) × (p ≤ e) × (n ≤ p - i + 1) × (n + length (pieces 44 (lineAt s p)) ≡ length (pieces 44 (lineAt s i)) + 1)
