@@ -25,10 +25,11 @@ use Rattle.laws.proofs.AskedLaws.{row-many}
 use Rattle.laws.proofs.FirstBrokenLaws.{checks-first}
 use Rattle.correction.specs.declared.Answer.{Answer}
 use Rattle.correction.specs.declared.Answer.the-variants.{Applied, Refused}
+use Rattle.correction.specs.declared.deciding.Decision.{Decision}
 use Rattle.correction.specs.Texts.{size, isBelow, numberText, flagText, atRight}
-use Rattle.correction.specs.Corrections.{Order, isThere, badNumber, badFlag, tooLong, Test, test, firstThat, textAt, ownTexts, answerBy, answerOf, textsOf, filled, correctedOf}
+use Rattle.correction.specs.Corrections.{Order, orderOf, isThere, badNumber, badFlag, tooLong, Test, test, firstThat, textAt, ownTexts, answerBy, answerOf, textsOf, filled, correctedOf}
 use Rattle.correction.specs.WriteWords.{InCell, Writes}
-use Rattle.correction.specs.DecideWords.{brokenBy}
+use Rattle.correction.specs.DecideWords.{brokenBy, Decides}
 use Rattle.correction.proofs.SizeLaws.{below-is}
 use Rattle.correction.proofs.TextLaws.{number-some, flag-in}
 use Rattle.correction.proofs.GeometryLaws.{shape, begin, widthAt, width-cell, Inside, inside-of}
@@ -69,7 +70,7 @@ module _ (f : List ℕ) (o : Order) (x : Located) (e : x ≡ locatedOf f (o .row
   abbrev Is : Outcome → Type 0
   Is p = x ≡ locatedBy f (o .row) (o .column) (askedBy (o .row) (o .column) p)
 
-  pub answer-refused : (x .number ≡ 0 → ⊥) → answerOf f o ≡ Refused (x .number) (x .line) (x .column)
+  answer-refused : (x .number ≡ 0 → ⊥) → answerOf f o ≡ Refused (x .number) (x .line) (x .column)
   unfolding answerOf locatedOf askedOf
   answer-refused z = go (outcomeOf f) e
     where
@@ -193,15 +194,21 @@ module _ (f : List ℕ) (o : Order) (x : Located) (h : Here f o x) where
     writes-here = subst (λ (y : Located). Writes f (y .value) (y .flagged) (y .flag) (o .millionths) (o .decimals) (o .flag)) (sym (h .is)) writes-table
 
 -- ---- the bytes left
-pub corrected-kept : (f : List ℕ) (o : Order) (a b c : ℕ) → answerOf f o ≡ Refused a b c → f ≡ correctedOf f o
+corrected-kept : (f : List ℕ) (o : Order) (a b c : ℕ) → answerOf f o ≡ Refused a b c → f ≡ correctedOf f o
 unfolding correctedOf
 corrected-kept f o a b c e = rw e
 
-corrected-filled : (f : List ℕ) (o : Order) {g : List ℕ} → answerOf f o ≡ Applied → g ≡ filled (cellsOf f (o .row) (o .column)) (textsOf o) f → g ≡ correctedOf f o
+corrected-filled : (f : List ℕ) (o : Order) → answerOf f o ≡ Applied → filled (cellsOf f (o .row) (o .column)) (textsOf o) f ≡ correctedOf f o
 unfolding correctedOf
-corrected-filled f o e k = rw e k
+corrected-filled f o e = rw e
 
--- ---- the returns, the number k found by the code from its own sign and size n
+-- ---- the returns of decide: the refusal of locate, or the number k found by the code from its own sign and size n
+abbrev decisionOf : Located → ℕ → ℕ → ℕ → Decision
+decisionOf x number line column = record { number = number; line = line; column = column; value = x .value; flagged = x .flagged; flag = x .flag }
+
+pub decides-refused : {f : List ℕ} {o : Order} {x : Located} → x ≡ locatedOf f (o .row) (o .column) → (x .number ≡ 0 → ⊥) → Decides f o (decisionOf x (x .number) (x .line) (x .column))
+decides-refused {f} {o} {x} e z = record { refused = answer-refused f o x e; applied = λ k. absurd (z k) }
+
 module _ {f : List ℕ} {o : Order} {x : Located} (h : Here f o x) (s : SFits w64 (o .millionths)) {n k : ℕ} (e : n ≡ size (toZ w64 (ofZ w64 (o .millionths))))
     (b : k ≡ brokenBy x (ltZ (toZ w64 (ofZ w64 (o .millionths))) (pos 0)) n (o .decimals) (o .flag)) where
   by-code : answerOf f o ≡ byNumber k
@@ -211,18 +218,35 @@ module _ {f : List ℕ} {o : Order} {x : Located} (h : Here f o x) (s : SFits w6
       ∙ ap byNumber (ap (λ (z : Bool). brokenBy x z (size (o .millionths)) (o .decimals) (o .flag)) (sym (below-is (o .millionths) s))
       ∙ ap (λ (j : ℕ). brokenBy x (ltZ (toZ w64 (ofZ w64 (o .millionths))) (pos 0)) j (o .decimals) (o .flag)) q ∙ sym b)
 
-  pub answer-broken : (k ≡ 0 → ⊥) → answerOf f o ≡ Refused k 0 0
+  answer-broken : (k ≡ 0 → ⊥) → answerOf f o ≡ Refused k 0 0
   answer-broken z = by-code ∙ rw (ne-eqb k 0 z)
 
-  pub answer-applied : k ≡ 0 → answerOf f o ≡ Applied
+  answer-applied : k ≡ 0 → answerOf f o ≡ Applied
   answer-applied z = by-code ∙ rw z
 
-  pub correct-writes : k ≡ 0 → Writes f (x .value) (x .flagged) (x .flag) (toZ w64 (ofZ w64 (o .millionths))) (o .decimals) (o .flag)
-  correct-writes z = rw (toZ-ofZ w64 (o .millionths) s) (writes-here f o x h (answer-applied z))
+  pub decides-here : Decides f o (decisionOf x k 0 0)
+  decides-here = record {
+    refused = answer-broken;
+    applied = λ z. record {
+      answer = answer-applied z;
+      line = refl;
+      column = refl;
+      writes = writes-here f o x h (answer-applied z);
+      fills = ap (λ (ps : List Span). filled ps (textsOf o) f) (sym (cells-here f o x h)) ∙ corrected-filled f o (answer-applied z);
+    };
+  }
 
-  pub correct-left : {g : List ℕ} → k ≡ 0
-      → g ≡ filled (x .value ∷ cond (x .flagged) (x .flag ∷ []) []) (numberText (toZ w64 (ofZ w64 (o .millionths))) (o .decimals) ∷ flagText (o .flag) ∷ []) f → g ≡ correctedOf f o
-  correct-left {g} z q =
-      corrected-filled f o (answer-applied z)
-      (q ∙ ap (λ (m : ℤ). filled (x .value ∷ cond (x .flagged) (x .flag ∷ []) []) (numberText m (o .decimals) ∷ flagText (o .flag) ∷ []) f) (toZ-ofZ w64 (o .millionths) s)
-      ∙ ap (λ (ps : List Span). filled ps (textsOf o) f) (sym (cells-here f o x h)))
+-- ---- the returns of correct, by what decide says of the order as the code has it
+abbrev coded : Order → Order
+coded o = orderOf (o .row) (o .column) (toZ w64 (ofZ w64 (o .millionths))) (o .decimals) (o .flag)
+
+module _ {f : List ℕ} (o : Order) {d : Decision} (s : SFits w64 (o .millionths)) (h : Decides f (coded o) d) where
+  coded-same : coded o ≡ o
+  coded-same = ap (λ (m : ℤ). orderOf (o .row) (o .column) m (o .decimals) (o .flag)) (toZ-ofZ w64 (o .millionths) s)
+
+  pub correct-refused : (d .number ≡ 0 → ⊥) → (Refused (d .number) (d .line) (d .column) ≡ answerOf f o) × (f ≡ correctedOf f o)
+  correct-refused z = let e = sym (ap (answerOf f) coded-same) ∙ h .refused z in (sym e, corrected-kept f o _ _ _ e)
+
+  pub correct-applied : {g : List ℕ} → d .number ≡ 0 → g ≡ filled (d .value ∷ cond (d .flagged) (d .flag ∷ []) []) (textsOf (coded o)) f
+      → (Applied ≡ answerOf f o) × (g ≡ correctedOf f o)
+  correct-applied z q = let a = h .applied z in (sym (a .answer) ∙ ap (answerOf f) coded-same, q ∙ a .fills ∙ ap (correctedOf f) coded-same)

@@ -1,11 +1,15 @@
--- The words of the contracts of the functions that decide a correction of located cells.
+-- The words of the contracts of the functions that decide a correction.
 use Prim.Native.Nat.{ℕ, _-_, _%_, _^_}
+use mathlib.Core.Path.{_≡_}
+use mathlib.Core.List.{List, [], _∷_}
 use mathlib.Core.Bool.{Bool, cond, not, _||_}
 use lib.ListN.{length}
 use lib.Dec.{eqb, ltb}
 use Rattle.exchange.specs.declared.Located.{Located}
-use Rattle.correction.specs.Corrections.{inSet}
-use Rattle.correction.specs.WriteWords.{textOf}
+use Rattle.correction.specs.declared.Answer.the-variants.{Applied, Refused}
+use Rattle.correction.specs.declared.deciding.Decision.{Decision}
+use Rattle.correction.specs.Corrections.{Order, inSet, answerOf, textsOf, filled, correctedOf}
+use Rattle.correction.specs.WriteWords.{textOf, Writes}
 
 -- 23, by the number's size
 abbrev pub wrongNumber : ℕ → ℕ → Bool
@@ -22,3 +26,16 @@ brokenBy x minus n d v =
     (cond (wrongNumber n d) 23
     (cond (wrongFlag (x .flagged) (x .ctd) v) 24
     (cond (ltb (x .value .len) (length (textOf minus n d))) 25 0)))
+
+-- the correction o of f is applied, and filling the cells at the places of d makes it
+pub record Applies (f : List ℕ) (o : Order) (d : Decision) : Type 0 where
+  pub answer : answerOf f o ≡ Applied
+  pub line : d .line ≡ 0
+  pub column : d .column ≡ 0
+  pub writes : Writes f (d .value) (d .flagged) (d .flag) (o .millionths) (o .decimals) (o .flag)
+  pub fills : filled (d .value ∷ cond (d .flagged) (d .flag ∷ []) []) (textsOf o) f ≡ correctedOf f o
+
+-- d says what the correction o of f is answered: applied where its number is 0, else refused
+pub record Decides (f : List ℕ) (o : Order) (d : Decision) : Type 0 where
+  pub refused : (d .number ≡ 0 → ⊥) → answerOf f o ≡ Refused (d .number) (d .line) (d .column)
+  pub applied : d .number ≡ 0 → Applies f o d

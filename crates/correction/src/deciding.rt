@@ -1,9 +1,22 @@
-// The rules of a correction whose row and column are there: 22 to 25 in number order. Nothing is written here.
+// A correction decided: the file's refusal or 21, then the rules 22 to 25 in number order. Nothing is written here.
 ghost use mathlib.Core.Path.{_≡_};
-ghost use Rattle.correction.specs.DecideWords.{wrongNumber, wrongFlag, brokenBy};
+ghost use Rattle.correction.specs.Corrections.{orderOf};
+ghost use Rattle.correction.specs.DecideWords.{wrongNumber, wrongFlag, brokenBy, Decides};
 use crate::numbers::last_place;
+use crate::numbers::size_of;
 use crate::numbers::text_length;
 use exchange::Located;
+use text::Span;
+
+// A correction's answer: number, line and column, 0 each where it is applied; the places of the cells to write are then the others.
+pub struct Decision {
+    pub number: u64,
+    pub line: u64,
+    pub column: u64,
+    pub value: Span,
+    pub flagged: bool,
+    pub flag: Span,
+}
 
 // The least size, in millionths, that no correction may have.
 const TOO_LARGE: u64 = 1000000000000000;
@@ -32,8 +45,8 @@ fn wrong_flag(flagged: bool, ctd: bool, flag: u64) -> bool
     }
 }
 
-// The first rule that is broken; 0 where none is.
-pub fn broken_rule(at: Located, minus: bool, size: u64, decimals: u64, flag: u64) -> u64
+// The first rule that is broken where row and column are there; 0 where none is.
+fn broken_rule(at: Located, minus: bool, size: u64, decimals: u64, flag: u64) -> u64
     ensures { λ r. ⌜ r ≡ brokenBy at minus size decimals flag ⌝ }
 {
     if !at.measured {
@@ -50,4 +63,39 @@ pub fn broken_rule(at: Located, minus: bool, size: u64, decimals: u64, flag: u64
         return 25;
     }
     0
+}
+
+// Decides a correction, and leaves the file as it is.
+pub fn decide(
+    file: &[u8],
+    row: u64,
+    column: u64,
+    millionths: i64,
+    decimals: u64,
+    flag: u64,
+) -> Decision
+    ensures { λ r. ⌜ Decides (now (file .entry)) (orderOf row column millionths decimals flag) r ⌝ }
+{
+    let at = exchange::locate(file, row, column);
+    let value = at.value;
+    let cell = at.flag;
+    if at.number != 0 {
+        return Decision {
+            number: at.number,
+            line: at.line,
+            column: at.column,
+            value,
+            flagged: at.flagged,
+            flag: cell,
+        };
+    }
+    let number = broken_rule(at, millionths < 0, size_of(millionths), decimals, flag);
+    Decision {
+        number,
+        line: 0,
+        column: 0,
+        value,
+        flagged: at.flagged,
+        flag: cell,
+    }
 }

@@ -40,37 +40,15 @@ pub fn correct(
     ensures { λ r. ⌜ r ≡ answerOf (now (file .entry)) (orderOf row column millionths decimals flag) ⌝ }
     ensures { λ r. ⌜ now (file .exit) ≡ correctedOf (now (file .entry)) (orderOf row column millionths decimals flag) ⌝ }
 {
-    let at = exchange::locate(file, row, column);
-    if at.number != 0 {
+    let d = deciding::decide(file, row, column, millionths, decimals, flag);
+    if d.number != 0 {
         return Answer::Refused {
-            number: at.number,
-            line: at.line,
-            column: at.column,
+            number: d.number,
+            line: d.line,
+            column: d.column,
         };
     }
-    let number = deciding::broken_rule(
-        at,
-        millionths < 0,
-        numbers::size_of(millionths),
-        decimals,
-        flag,
-    );
-    if number != 0 {
-        return Answer::Refused {
-            number,
-            line: 0,
-            column: 0,
-        };
-    }
-    writing::write(
-        file,
-        at.value,
-        at.flagged,
-        at.flag,
-        millionths,
-        decimals,
-        flag,
-    );
+    writing::write(file, d.value, d.flagged, d.flag, millionths, decimals, flag);
     Answer::Applied
 }
 
