@@ -1,0 +1,186 @@
+//! Files that are too large for the gate: the answers of the C interface beside the independent reader's.
+
+use crate::check::FileKind;
+use crate::correct::Correction;
+use crate::files::{Made, BOTTLE_COLUMNS, MEGABYTE};
+use crate::kinds::CastTime;
+use crate::{calls, check, correct, pochahuic, refusal};
+
+const MOST_DATA_LINES: u64 = 1_000_000;
+const CTD_COLUMNS: u64 = 24;
+
+/// An answer in words that are the same on both sides, or the refusal's number, line and column.
+type Answer = Result<String, (u64, u64, u64)>;
+
+/// Compares all of it, file by file; says whether there was no difference.
+pub fn compare() -> bool {
+    let mut requests = Requests { asked: 0, different: 0 };
+    for kind in [FileKind::Bottle, FileKind::Ctd] {
+        let columns = if kind == FileKind::Bottle { 7 } else { 1 };
+        for rows in [MOST_DATA_LINES, MOST_DATA_LINES + 1] {
+            let file = Made::new(kind, rows, columns);
+            requests.check(&format!("{rows} rows of {}", kind.word()), &file.bytes);
+        }
+    }
+    for (kind, columns) in [(FileKind::Bottle, BOTTLE_COLUMNS), (FileKind::Ctd, CTD_COLUMNS)] {
+        let file = Made::of_size(kind, 100 * MEGABYTE, columns);
+        requests.calls(&file);
+        requests.spoilt(&file);
+    }
+    println!("{} requests, {} different", requests.asked, requests.different);
+    requests.different == 0
+}
+
+struct Requests {
+    asked: usize,
+    different: usize,
+}
+
+impl Requests {
+    fn hold(&mut self, what: &str, ours: Answer, theirs: Answer) {
+        self.asked += 1;
+        if ours != theirs {
+            self.different += 1;
+            println!("DIFFERENT: {what}: {ours:?}, the independent reader {theirs:?}");
+        }
+    }
+
+    fn check(&mut self, what: &str, file: &[u8]) {
+        let ours = our_check(file);
+        println!("{what}, {} bytes: {ours:?}", file.len());
+        self.hold(what, ours, their_check(file));
+    }
+
+    /// Every call, at the first, a middle and the last row and at places that are not there.
+    fn calls(&mut self, file: &Made) {
+        let Made { kind, rows, columns, ref bytes } = *file;
+        self.check(&format!("{rows} rows x {columns} columns of {}", kind.word()), bytes);
+        let measured = file.last_measured();
+        for (row, column) in [(1, 1), (rows / 2, measured), (rows, columns), (rows + 1, 1)] {
+            let what = format!("{}, row {row}, column {column}", kind.word());
+            self.hold(&what, our_cell(bytes, row, column), their_cell(bytes, row, column));
+            self.hold(&what, our_decimal(bytes, row, column), their_decimal(bytes, row, column));
+            self.hold(&what, our_flag(bytes, row, column), their_flag(bytes, row, column));
+        }
+        for k in [1, rows / 48, rows] {
+            let what = format!("{}, profile {k}", kind.word());
+            self.hold(&what, our_profile(bytes, k), their_profile(bytes, k));
+        }
+        for (row, flag) in [(1, 2), (rows, 3), (rows, 0)] {
+            let asked =
+                Correction { row, column: measured, millionths: -1_500_000, decimals: 2, flag };
+            let what = format!("{}, {asked:?}", kind.word());
+            self.hold(&what, our_correction(bytes, &asked), their_correction(bytes, &asked));
+        }
+    }
+
+    /// Faults at the very end, which are found only after all the rest.
+    fn spoilt(&mut self, file: &Made) {
+        let (whole, kind) = (&file.bytes[..], file.kind.word());
+        let data = whole.strip_suffix(b"END_DATA\n").expect("a made file ends so");
+        let last_flag = data.len() - 2;
+        for (name, byte) in [("no flag", b'x'), ("no UTF-8", 0xFF), ("a carriage return", b'\r')] {
+            let mut bytes = whole.to_vec();
+            bytes[last_flag] = byte;
+            self.check(&format!("{kind}, {name} in the last data line"), &bytes);
+        }
+        self.check(&format!("{kind}, no END_DATA"), data);
+        self.check(&format!("{kind}, no last line feed"), &whole[..whole.len() - 1]);
+        for length in [8_192, 8_193] {
+            let bytes = [whole, &b"a".repeat(length), b"\n"].concat();
+            self.check(&format!("{kind}, a line of {length} bytes after END_DATA"), &bytes);
+        }
+    }
+}
+
+fn our_refusal(refusal: pochahuic::Refusal) -> (u64, u64, u64) {
+    (refusal.number, refusal.line, refusal.column)
+}
+
+fn their_refusal(refusal: refusal::Refusal) -> (u64, u64, u64) {
+    (refusal.number.into(), refusal.line as u64, refusal.column as u64)
+}
+
+fn our_check(file: &[u8]) -> Answer {
+    let checked = pochahuic::check(file).map_err(our_refusal)?;
+    let kind = if checked.kind == pochahuic::Kind::Ctd { "CTD" } else { "BOTTLE" };
+    let pochahuic::Checked { columns, rows, profiles, missing, .. } = checked;
+    Ok(format!("{kind} {columns} {rows} {profiles} {missing}"))
+}
+
+fn their_check(file: &[u8]) -> Answer {
+    let exchange = check::check(file).map_err(their_refusal)?;
+    let (kind, columns, rows) = (exchange.kind.word(), exchange.columns.len(), exchange.rows.len());
+    Ok(format!("{kind} {columns} {rows} {} {}", exchange.profiles.len(), exchange.missing))
+}
+
+fn our_cell(file: &[u8], row: u64, column: u64) -> Answer {
+    let place = pochahuic::cell_place(file, row, column).map_err(our_refusal)?;
+    Ok(format!("{place:?}"))
+}
+
+fn their_cell(file: &[u8], row: u64, column: u64) -> Answer {
+    let place = calls::cell(file, row, column).map_err(their_refusal)?;
+    Ok(format!("{place:?}"))
+}
+
+fn our_decimal(file: &[u8], row: u64, column: u64) -> Answer {
+    Ok(match pochahuic::decimal(file, row, column).map_err(our_refusal)? {
+        pochahuic::Reading::Present { millionths, value } => format!("{millionths} {value:?}"),
+        pochahuic::Reading::Missing => "missing".to_string(),
+    })
+}
+
+fn their_decimal(file: &[u8], row: u64, column: u64) -> Answer {
+    Ok(match calls::decimal(file, row, column).map_err(their_refusal)? {
+        calls::Reading::Present { millionths, double } => format!("{millionths} {double:?}"),
+        calls::Reading::Missing => "missing".to_string(),
+    })
+}
+
+fn our_flag(file: &[u8], row: u64, column: u64) -> Answer {
+    pochahuic::flag(file, row, column).map(|flag| flag.to_string()).map_err(our_refusal)
+}
+
+fn their_flag(file: &[u8], row: u64, column: u64) -> Answer {
+    calls::flag(file, row, column).map(|flag| flag.to_string()).map_err(their_refusal)
+}
+
+fn our_profile(file: &[u8], k: u64) -> Answer {
+    let profile = pochahuic::profile(file, k).map_err(our_refusal)?;
+    let pochahuic::Profile { first, rows, castno, date, time } = profile;
+    let station = pochahuic::station(file, k, b"STNNBR").map_err(our_refusal)?;
+    Ok(format!("{first} {rows} {station:?} {castno} {date} {time:?}"))
+}
+
+fn their_profile(file: &[u8], k: u64) -> Answer {
+    let profile = calls::profile(file, k).map_err(their_refusal)?;
+    let (first, rows, castno) = (profile.first_row, profile.rows, profile.cast_number);
+    let time = match profile.time {
+        CastTime::Given { hour, minute } => Some((hour, minute)),
+        CastTime::Missing => None,
+    };
+    Ok(format!("{first} {rows} {:?} {castno} {} {time:?}", profile.station, profile.date))
+}
+
+/// The bytes that the correction changed, each with its place; the length is the same.
+fn change(file: &[u8], corrected: &[u8]) -> String {
+    assert!(file.len() == corrected.len());
+    let differs = |(one, other): &(&u8, &u8)| one != other;
+    let places = file.iter().zip(corrected).enumerate().filter(|(_, pair)| differs(pair));
+    places.map(|(place, (_, byte))| format!("{place}:{byte} ")).collect()
+}
+
+fn our_correction(file: &[u8], correction: &Correction) -> Answer {
+    let mut corrected = file.to_vec();
+    let &Correction { row, column, millionths, decimals, flag } = correction;
+    let outcome = pochahuic::correct(&mut corrected, row, column, millionths, decimals, flag);
+    assert!(outcome.is_ok() || corrected == file, "a refused correction changed the file");
+    outcome.map_err(our_refusal)?;
+    Ok(change(file, &corrected))
+}
+
+fn their_correction(file: &[u8], correction: &Correction) -> Answer {
+    let corrected = correct::correct(file, correction).map_err(their_refusal)?;
+    Ok(change(file, &corrected))
+}
