@@ -3,10 +3,11 @@ use Prim.Native.Nat.{ℕ, zero, suc, _+_, _≤_, _<_}
 use mathlib.Core.Path.{_≡_, refl, sym, ap, _∙_}
 use mathlib.Core.Bool.{Bool, true, false, cond}
 use mathlib.Core.List.{List, [], _∷_, _++_}
+use native.Mathlib.Nat.{add-zero, zero-add}
 use native.Mathlib.Numerals.{add-one}
 use native.Mathlib.Omega.{arith}
-use lib.ListN.{length, getD, set, drop, length-set}
-use lib.Seq.{drop-cons, drop-length}
+use lib.ListN.{length, getD, set, drop, length-set, length-append}
+use lib.Seq.{drop-cons, drop-length, set-at, append-snoc}
 use lib.Dec.{ltb}
 use borrow.Author.Tests.{lt-ltb, le-ltb}
 use Rattle.listing.specs.Pages.{Page, page, layByte, lay}
@@ -61,3 +62,19 @@ module _ (s u : List ℕ) (at r : ℕ) where
 
   pub text-room : (t : List ℕ) → page u r ≡ lay (page s at) t → length u ≡ length s
   text-room t e = ap (λ (p : Page). length (p .room)) e ∙ lay-long t (page s at)
+
+-- a text that there is room for: it stands at its place, with what was before it and after it
+lay-at : (t a b : List ℕ) → length t ≤ length b → lay (page (a ++ b) (length a)) t ≡ page (a ++ (t ++ drop (length t) b)) (length a + length t)
+unfolding lay
+lay-at [] a b h = ap (page (a ++ b)) (sym (add-zero (length a)))
+lay-at (x ∷ t) a [] h = absurd (omega arith)
+lay-at (x ∷ t) a (y ∷ b) h =
+    let long : length (a ++ x ∷ []) ≡ length a + 1 = length-append a (x ∷ []) in
+    let room : length a < length (a ++ y ∷ b) = rw (length-append a (y ∷ b)) (omega arith) in
+    let put : layByte (page (a ++ y ∷ b) (length a)) x ≡ page ((a ++ x ∷ []) ++ b) (length (a ++ x ∷ [])) =
+    sym (byte-put (a ++ y ∷ b) (length a) x room) ∙ ap (λ (s : List ℕ). page s (length a + 1)) (set-at a y b x (length a) refl ∙ sym (append-snoc a x b)) ∙ ap (page ((a ++ x ∷ []) ++ b)) (sym long) in
+    ap (λ (p : Page). lay p t) put ∙ lay-at t (a ++ x ∷ []) b (omega arith)
+    ∙ ap (λ (s : List ℕ). page s (length (a ++ x ∷ []) + length t)) (append-snoc a x (t ++ drop (length t) b)) ∙ ap (page (a ++ x ∷ (t ++ drop (length t) b))) (omega (arith, long))
+
+pub lay-fits : (s t : List ℕ) → length t ≤ length s → lay (page s 0) t ≡ page (t ++ drop (length t) s) (length t)
+lay-fits s t h = lay-at t [] s h ∙ ap (page (t ++ drop (length t) s)) (zero-add (length t))
