@@ -17,7 +17,7 @@ use Rattle.text.proofs.EveryLaws.{every-cons}
 use Rattle.text.proofs.LineLaws as line
 use Rattle.exchange.specs.Faults.{clean, _then_, unless, kindFault}
 use Rattle.exchange.specs.Columns.{kindsOf}
-use Rattle.exchange.specs.Rows.{cellFaults, rowFault, rowRules}
+use Rattle.exchange.specs.Rows.{cellFaults, rowRules}
 use Rattle.exchange.specs.Places.{Table, accepted, outcomeOf}
 use Rattle.exchange.specs.Profiles.{grid}
 use Rattle.exchange.specs.Answers.{kindAt}
@@ -103,8 +103,8 @@ cell-good (k ∷ ks) (t ∷ ts) c (suc i) e l h =
 row-good : (ks : List ℕ) (ts : List (List ℕ)) (i : ℕ) → rowRules ks ts ≡ clean → i < length ks → isGood (judge (kindOf (getD ks i 0)) (getD ts i [])) ≡ true
 unfolding rowRules
 row-good ks ts i e h =
-    let w = then-clean (unless (eqb (length ts) (length ks)) 15 1) (cellFaults 1 ks ts then rowFault ks ts) e in
-    cell-good ks ts 1 i (then-clean (cellFaults 1 ks ts) (rowFault ks ts) (w .1) .0) (cells-many ks ts e) h
+    let w = then-clean (unless (eqb (length ts) (length ks)) 15 1) (cellFaults 1 ks ts) e in
+    cell-good ks ts 1 i (w .1) (cells-many ks ts e) h
 
 flag-some : (ctd : Bool) (x : List ℕ) → isGood (judge (kindOf (cond ctd 5 4)) x) ≡ true → 1 ≤ length x
 unfolding judge kindOf trim lead back

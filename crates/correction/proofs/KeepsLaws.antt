@@ -9,6 +9,8 @@ use Rattle.exchange.specs.Columns.{kindOfName, kindsOf}
 use Rattle.exchange.specs.Places.{Table, Outcome, accepted, refused, outcomeOf}
 use Rattle.laws.specs.Writes.{ungrid}
 use Rattle.exchange.specs.Profiles.{grid}
+use Rattle.exchange.specs.Faults.{clean}
+use Rattle.exchange.specs.Rows.{boundFault}
 use Rattle.exchange.specs.Located.{cellsBy, cellsOf}
 use Rattle.exchange.proofs.AcceptLaws.{rows-kept}
 use Rattle.exchange.proofs.GridLaws.{cells-many}
@@ -38,6 +40,11 @@ on-line sh l [] xs = tt
 on-line sh l (c ∷ cs) [] = tt
 on-line sh l (c ∷ cs) (x ∷ xs) = (refl, on-line sh l cs xs)
 
+-- what binds the cells of a row together holds of the corrected row
+bound-kept : (ns ts : List (List ℕ)) → boundFault ns ts ≡ clean
+unfolding boundFault
+bound-kept ns ts = refl
+
 -- ---- an accepted file, an applied correction
 module _ (f : List ℕ) (t : Table) (n : ℕ) (e : outcomeOf f ≡ accepted t n) (o : Order) (a : Asked t n (shape (grid f)) o) where
   abbrev ws : List Put
@@ -63,7 +70,7 @@ module _ (f : List ℕ) (t : Table) (n : ℕ) (e : outcomeOf f ≡ accepted t n)
       ap (λ (g : Grid). outcomeOf (ungrid g)) (puts-row ws (grid f) (lineOf t o) in-grid lines)
       ∙ file-written f t n (o .row - 1) e below (map inRow ws)
       (all-rows (Good t (shape (grid f))) (kindsOf (t .names)) (map length (getD (grid f) (lineOf t o) [])) ws (lineOf t o) (put-fits f t (lineOf t o) many) lines (goods f t n o e a))
-      (o .column - 1) (rw length-map (a .measured .in-line)) (a .measured .kind)
+      (o .column - 1) (rw length-map (a .measured .in-line)) (a .measured .kind) (bound-kept (t .names) _)
 
 -- ---- any file, any correction
 record Planned (f : List ℕ) (p : Outcome) (o : Order) : Type 0 where

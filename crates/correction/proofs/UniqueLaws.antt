@@ -16,7 +16,7 @@ use Rattle.exchange.specs.LineRules.{lineRules, unended}
 use Rattle.exchange.specs.Headers.{Header, headerOf, namesIn, headersSaid, firstHeaderRules, headerRules, stationNames}
 use Rattle.exchange.specs.Columns.{Sort, bottle, ctd, namesOf, nameFaults, flagFaults, requiredNames, namesRules, kindsOf}
 use Rattle.exchange.specs.NameWords.{faultIn}
-use Rattle.exchange.specs.Rows.{rowRules, isEndData}
+use Rattle.exchange.specs.Rows.{rowRules, boundFault, isEndData}
 use Rattle.exchange.specs.Places.{Table, Place, first, comments, headers, names, units, rows, after, stopped, stopAt, isBottle, isComment, firstRules, afterComments, afterHeader, firstStep, commentsStep, firstHeaderStep, headersStep, namesStep, unitsStep, rowsStep, step, accepted, ending, cut, run, outcomeOf}
 use Rattle.exchange.proofs.HeaderLaws.{then-clean}
 use Rattle.exchange.proofs.NameLaws.{clean-unique}
@@ -78,7 +78,7 @@ unfolding rowsStep
 named-row l t n x h = named-stop l (lineRules true x) _ (λ e. go (isEndData x) (eqb n 0))
   where
     f : Fault
-    f = unless (ltb n 1000000) 20 1 then rowRules (kindsOf (t .names)) (pieces 44 x)
+    f = unless (ltb n 1000000) 20 1 then rowRules (kindsOf (t .names)) (pieces 44 x) then boundFault (t .names) (pieces 44 x)
 
     go : (a b : Bool) → Named (cond a (cond b (stopped 19 l 1) (after t n)) (stopAt l f (rows t (n + 1))))
     go true true = tt

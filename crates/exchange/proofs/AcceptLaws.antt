@@ -12,7 +12,7 @@ use Rattle.exchange.specs.Faults.{Fault, clean, breaks, _then_, unless, 
 use Rattle.exchange.specs.LineRules.{lineRules, unended}
 use Rattle.exchange.specs.Headers.{Header, headerOf, namesIn, headersSaid, firstHeaderRules, headerRules, stationNames}
 use Rattle.exchange.specs.Columns.{Sort, bottle, ctd, namesOf, namesRules, kindsOf}
-use Rattle.exchange.specs.Rows.{rowRules, isEndData}
+use Rattle.exchange.specs.Rows.{rowRules, boundFault, isEndData}
 use Rattle.exchange.specs.Places.{Table, Place, first, comments, headers, names, units, rows, after, stopped, stopAt, isBottle, isComment, firstRules, afterComments, afterHeader, firstStep, commentsStep, firstHeaderStep, headersStep, namesStep, unitsStep, endData, rowsStep, step, Outcome, accepted, refused, faultOutcome, ending, cut, last, run, outcomeOf}
 use Rattle.exchange.proofs.RunLaws.{run-stopped}
 
@@ -47,6 +47,7 @@ pub record RowKept (t : Table) (ps : List (List ℕ)) (r : ℕ) : Type 0 where
   pub line : suc r < length ps
   pub bytes : lineRules true (getD ps r []) ≡ clean
   pub cells : rowRules (kindsOf (t .names)) (pieces 44 (getD ps r [])) ≡ clean
+  pub bound : boundFault (t .names) (pieces 44 (getD ps r [])) ≡ clean
 
 pub record RowsKept (t : Table) (m : ℕ) (ps : List (List ℕ)) (u : Table) (n : ℕ) : Type 0 where
   pub table : t ≡ u
@@ -68,11 +69,11 @@ rows-accepted (x ∷ (y ∷ ys)) l t m u n e = by (isEndData x) refl (stops-refu
     ps = x ∷ (y ∷ ys)
 
     f : Fault
-    f = (unless (ltb m 1000000) 20 1) then (rowRules (kindsOf (t .names)) (pieces 44 x))
+    f = (unless (ltb m 1000000) 20 1) then (rowRules (kindsOf (t .names)) (pieces 44 x)) then (boundFault (t .names) (pieces 44 x))
 
-    second : (g h : Fault) → (g then h) ≡ clean → h ≡ clean
-    second clean h e = e
-    second (breaks a c) h e = let z : _≡_ {A = ℕ} 0 1 = cc in absurd (omega arith)
+    both : (g h : Fault) → (g then h) ≡ clean → (g ≡ clean) × (h ≡ clean)
+    both clean h e = (refl, e)
+    both (breaks a c) h e = let z : _≡_ {A = ℕ} 0 1 = cc in absurd (omega arith)
 
     ends : (z : Bool) → eqb m 0 ≡ z → run (l + 1) (cond z (stopped 19 l 1) (after t m)) (y ∷ ys) ≡ accepted u n → RowsKept t m ps u n
     ends true q e = absurd (accepted-not-refused (sym (run-stopped (l + 1) 19 l 1 (y ∷ ys)) ∙ e))
@@ -84,11 +85,13 @@ rows-accepted (x ∷ (y ∷ ys)) l t m u n e = by (isEndData x) refl (stops-refu
     by false q e ih =
         let w = stops-refused (l + 1) 0 l f (rows t (m + 1)) (y ∷ ys) u n (e .1) in
         let k = ih (w .1) in
-        record { table = k .table; more = omega (arith, k .more); some = k .some; kept = λ r h. go r h k (e .0) (second (unless (ltb m 1000000) 20 1) (rowRules (kindsOf (t .names)) (pieces 44 x)) (w .0)) }
+        let v = both (unless (ltb m 1000000) 20 1) (rowRules (kindsOf (t .names)) (pieces 44 x) then boundFault (t .names) (pieces 44 x)) (w .0) in
+        let u = both (rowRules (kindsOf (t .names)) (pieces 44 x)) (boundFault (t .names) (pieces 44 x)) (v .1) in
+        record { table = k .table; more = omega (arith, k .more); some = k .some; kept = λ r h. go r h k (e .0) (u .0) (u .1) }
       where
-        go : (r : ℕ) → r < n - m → RowsKept t (m + 1) (y ∷ ys) u n → lineRules true x ≡ clean → rowRules (kindsOf (t .names)) (pieces 44 x) ≡ clean → RowKept t ps r
-        go zero h k a b = record { line = omega arith; bytes = a; cells = b }
-        go (suc r) h k a b = let o = k .kept r (omega (arith, h)) in record { line = omega (arith, o .line); bytes = o .bytes; cells = o .cells }
+        go : (r : ℕ) → r < n - m → RowsKept t (m + 1) (y ∷ ys) u n → lineRules true x ≡ clean → rowRules (kindsOf (t .names)) (pieces 44 x) ≡ clean → boundFault (t .names) (pieces 44 x) ≡ clean → RowKept t ps r
+        go zero h k a b c = record { line = omega arith; bytes = a; cells = b; bound = c }
+        go (suc r) h k a b c = let o = k .kept r (omega (arith, h)) in record { line = omega (arith, o .line); bytes = o .bytes; cells = o .cells; bound = o .bound }
 
 -- ---- the lines before the data
 abbrev pub Early : Place → Type 0

@@ -18,7 +18,7 @@ use Rattle.exchange.specs.declared.rows.Data.{Data}
 use Rattle.exchange.specs.Faults.{Fault, clean, breaks}
 use Rattle.exchange.specs.LineRules.{lineRules}
 use Rattle.exchange.specs.Columns.{kindsOf}
-use Rattle.exchange.specs.Rows.{rowRules, isEndData}
+use Rattle.exchange.specs.Rows.{rowRules, boundFault, isEndData}
 use Rattle.exchange.specs.Places.{Table, Place, rows, after, stopped, rowsStep, refused, run}
 use Rattle.exchange.specs.Profiles.{missingInRow, missingInRows, Key, keyOf, sameKey, bordersFrom, runCount}
 use Rattle.exchange.specs.Walks.{linesFrom, lineOf, asFault, textIn, rowsFrom, DataRead}
@@ -51,7 +51,7 @@ module _ (l : ℕ) (t : Table) (n : ℕ) (x : List ℕ) where
       step-refused a c f = rw (h, y, lt-ltb n 1000000 z) (rw f)
 
       step-row : rowRules (kindsOf (t .names)) (pieces 44 x) ≡ clean → rowsStep l t n x ≡ rows t (n + 1)
-      unfolding rowsStep
+      unfolding rowsStep boundFault
       step-row f = rw (h, y, lt-ltb n 1000000 z) (rw f)
 
 -- ---- another row

@@ -16,7 +16,7 @@ use Rattle.text.proofs.CellLaws.{stop-moved, stop-short, next-within, next-from
 use Rattle.text.specs.Scans.{Stop}
 use Rattle.exchange.specs.Faults.{clean, breaks, _then_, unless}
 use Rattle.exchange.specs.Columns.{kindOfName, kindsOf}
-use Rattle.exchange.specs.Rows.{cellFaults, rowFault, rowRules}
+use Rattle.exchange.specs.Rows.{cellFaults, rowRules}
 use Rattle.exchange.specs.Places.{Table, accepted, outcomeOf}
 use Rattle.exchange.specs.Grid.{starts, lineStart, cellSpan}
 use Rattle.exchange.specs.Profiles.{grid}
@@ -106,7 +106,7 @@ pub cells-many : (ks : List ℕ) (ts : List (List ℕ)) → rowRules ks ts ≡ c
 unfolding rowRules
 cells-many ks ts e = go (eqb (length ts) (length ks)) refl e
   where
-    go : (z : Bool) → eqb (length ts) (length ks) ≡ z → ((unless z 15 1) then (cellFaults 1 ks ts then rowFault ks ts)) ≡ clean → length ts ≡ length ks
+    go : (z : Bool) → eqb (length ts) (length ks) ≡ z → ((unless z 15 1) then (cellFaults 1 ks ts)) ≡ clean → length ts ≡ length ks
     go true q e = eqb-true (length ts) (length ks) q
     go false q e = let z : _≡_ {A = ℕ} 0 1 = cc in absurd (omega arith)
 

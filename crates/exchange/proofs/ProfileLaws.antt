@@ -40,7 +40,7 @@ rows-lines (suc n) s t i h =
     (rows-lines n s t (i + length (lineAt s i) + 1) (λ r l. later r (subst (λ (ps : List (List ℕ)). RowKept t ps (suc r)) (lines-more s i far) (h (suc r) (omega arith)))))
   where
     later : (r : ℕ) → RowKept t (lineAt s i ∷ linesFrom s (i + length (lineAt s i) + 1)) (suc r) → RowKept t (linesFrom s (i + length (lineAt s i) + 1)) r
-    later r o = record { line = omega (arith, o .line); bytes = o .bytes; cells = o .cells }
+    later r o = record { line = omega (arith, o .line); bytes = o .bytes; cells = o .cells; bound = o .bound }
 
 pub record RowFirst (s ks : List ℕ) (i n : ℕ) : Type 0 where
   pub stop : Stop 44 s i (i + length (lineAt s i))

@@ -359,10 +359,6 @@ pub fault-number : (n c : ℕ) → (n ≡ 0 → ⊥) → asFault n c ≡ breaks 
 fault-number zero c h = absurd (h refl)
 fault-number (suc n) c h = refl
 
-then-clean : (f : Fault) → (f then clean) ≡ f
-then-clean clean = refl
-then-clean (breaks n c) = refl
-
 module _ (ks : List ℕ) (ts : List (List ℕ)) where
   rules-count : (length ts ≡ length ks → ⊥) → rowRules ks ts ≡ breaks 15 1
   unfolding rowRules
@@ -370,7 +366,7 @@ module _ (ks : List ℕ) (ts : List (List ℕ)) where
 
   rules-cells : length ts ≡ length ks → rowRules ks ts ≡ cellFaults 1 ks ts
   unfolding rowRules
-  rules-cells h = rw (eq-eqb (length ts) (length ks) h) (then-clean (cellFaults 1 ks ts))
+  rules-cells h = rw (eq-eqb (length ts) (length ks) h)
 
 -- a row that keeps them
 module _ (ks : List ℕ) (ts : List (List ℕ)) (h : rowRules ks ts ≡ clean) where

@@ -10,7 +10,7 @@ use Rattle.exchange.specs.Faults.{Fault, clean, breaks, _then_, unless, 
 use Rattle.exchange.specs.LineRules.{lineRules, unended}
 use Rattle.exchange.specs.Headers.{Header, headerOf, namesIn, headersSaid, firstHeaderRules, headerRules, stationNames}
 use Rattle.exchange.specs.Columns.{Sort, bottle, ctd, namesOf, namesRules, kindsOf}
-use Rattle.exchange.specs.Rows.{rowRules, isEndData}
+use Rattle.exchange.specs.Rows.{rowRules, boundFault, isEndData}
 
 -- a file's table: its headers, the names of its columns, and how many lines stand before its first data line
 pub record Table : Type 0 where
@@ -90,7 +90,7 @@ unfoldable pub rowsStep : ℕ → Table → ℕ → List ℕ → Place
 rowsStep l t n x =
     stopAt l (lineRules true x)
     (cond (isEndData x) (endData l t n)
-    (stopAt l (unless (ltb n 1000000) 20 1 then rowRules (kindsOf (t .names)) (pieces 44 x)) (rows t (n + 1))))
+    (stopAt l (unless (ltb n 1000000) 20 1 then rowRules (kindsOf (t .names)) (pieces 44 x) then boundFault (t .names) (pieces 44 x)) (rows t (n + 1))))
 
 -- ---- one line at its place
 abbrev pub step : ℕ → Place → List ℕ → Place

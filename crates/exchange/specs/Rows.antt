@@ -14,12 +14,12 @@ cellFaults c [] ts = clean
 cellFaults c (k ∷ ks) [] = clean
 cellFaults c (k ∷ ks) (t ∷ ts) = kindFault (judge (kindOf k) t) c then cellFaults (c + length t + 1) ks ts
 
--- what binds the cells of a row together: nothing in document 01
-abbrev pub rowFault : List ℕ → List (List ℕ) → Fault
-rowFault ks ts = clean
-
 unfoldable pub rowRules : List ℕ → List (List ℕ) → Fault
-rowRules ks ts = unless (eqb (length ts) (length ks)) 15 1 then cellFaults 1 ks ts then rowFault ks ts
+rowRules ks ts = unless (eqb (length ts) (length ks)) 15 1 then cellFaults 1 ks ts
+
+-- what binds good cells of a row together, the columns being of these names: nothing in document 01
+unfoldable pub boundFault : List (List ℕ) → List (List ℕ) → Fault
+boundFault ns ts = clean
 
 -- a line that is exactly END_DATA
 abbrev pub isEndData : List ℕ → Bool

@@ -54,7 +54,7 @@ rules-cells : (ks : List ℕ) (ts : List (List ℕ)) → rowRules ks ts ≡ clea
 unfolding rowRules
 rules-cells ks ts e = go (eqb (length ts) (length ks)) (cellFaults 1 ks ts) e
   where
-    go : (z : Bool) (g : Fault) → (unless z 15 1 then g then clean) ≡ clean → g ≡ clean
+    go : (z : Bool) (g : Fault) → (unless z 15 1 then g) ≡ clean → g ≡ clean
     go true clean e = refl
     go true (breaks a b) e = e
     go false g e = let z : _≡_ {A = ℕ} 0 1 = cc in absurd (omega arith)

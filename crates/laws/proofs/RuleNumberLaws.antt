@@ -19,9 +19,9 @@ use Rattle.exchange.specs.Faults.{Fault, clean, breaks, _then_, unless, kindFau
 use Rattle.exchange.specs.LineRules.{foundFault, tooLong}
 use Rattle.exchange.specs.Headers.{Header, rawName, nameOf, valueOf, headerOf, namesIn, nameRule, headersSaid, headerKind, stationNames}
 use Rattle.exchange.specs.Columns.{Sort, bottle, ctd, isFlag, hasParameter, requiredNames, kindsOf}
-use Rattle.exchange.specs.Rows.{rowFault, isEndData}
-use Rattle.exchange.specs.Places.{Place, first, comments, headers, names, units, rows, after, stopped, isMark, isBottle, isCtd, isComment}
-use Rattle.laws.specs.RuleOrder.{lineList, columnAt, cellByCell, nameAmong, nameList, flagList, namesList, cellList, rowList, lastHeader, firstHeaderList, headerList, topList, rulesAt, endRules, isAfter, linesIn, placeBefore, lineIn, rulesOf}
+use Rattle.exchange.specs.Rows.{boundFault, isEndData}
+use Rattle.exchange.specs.Places.{Table, Place, first, comments, headers, names, units, rows, after, stopped, isMark, isBottle, isCtd, isComment}
+use Rattle.laws.specs.RuleOrder.{lineList, columnAt, cellByCell, nameAmong, nameList, flagList, namesList, cellList, rowList, dataList, lastHeader, firstHeaderList, headerList, topList, rulesAt, endRules, isAfter, linesIn, placeBefore, lineIn, rulesOf}
 use Rattle.laws.proofs.RuleOrderLaws.{firstOf}
 
 -- a number of the table, by a test that computes
@@ -126,8 +126,11 @@ unfolding rowList
 row-numbered n ks ts =
     unless-numbered (ltb n 1000000) 20 1 _ refl
     (unless-numbered (eqb (length ts) (length ks)) 15 1 _ refl
-    (append-numbered (cellByCell 0 (length ks) (cellList ks ts)) (rowFault ks ts ∷ []) (cells-numbered 0 (length ks) (cellList ks ts) (cell-numbered ks ts))
-    (first-numbered (rowFault ks ts) [] tt none-numbered)))
+    (cells-numbered 0 (length ks) (cellList ks ts) (cell-numbered ks ts)))
+
+data-numbered : (t : Table) (n : ℕ) (ts : List (List ℕ)) → FirstNumbered (dataList t n ts)
+unfolding dataList boundFault
+data-numbered t n ts = append-numbered (rowList n (kindsOf (t .names)) ts) (boundFault (t .names) ts ∷ []) (row-numbered n (kindsOf (t .names)) ts) (first-numbered (boundFault (t .names) ts) [] tt none-numbered)
 
 last-numbered : (due : ℕ) (hs : List Header) → FirstNumbered (lastHeader due hs)
 unfolding lastHeader
@@ -161,8 +164,8 @@ rules-numbered (headers due hs) x = own-numbered x (headerList due hs x) (header
 rules-numbered (names s hs) x = own-numbered x (namesList s (pieces 44 x)) (names-numbered s (pieces 44 x))
 rules-numbered (units s hs ns) x = own-numbered x _ (one-numbered (eqb (length (pieces 44 x)) (length ns)) 15 1 refl)
 rules-numbered (rows t n) x =
-    own-numbered x _ (either-numbered (isEndData x) (unless (not (eqb n 0)) 19 1 ∷ []) (rowList n (kindsOf (t .names)) (pieces 44 x))
-    (one-numbered (not (eqb n 0)) 19 1 refl) (row-numbered n (kindsOf (t .names)) (pieces 44 x)))
+    own-numbered x _ (either-numbered (isEndData x) (unless (not (eqb n 0)) 19 1 ∷ []) (dataList t n (pieces 44 x))
+    (one-numbered (not (eqb n 0)) 19 1 refl) (data-numbered t n (pieces 44 x)))
 rules-numbered (after t n) x = line-numbered false x
 rules-numbered (stopped a b c) x = none-numbered
 

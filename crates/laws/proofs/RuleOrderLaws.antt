@@ -17,10 +17,10 @@ use Rattle.exchange.specs.Faults.{Fault, clean, breaks, _then_, unless, kindFau
 use Rattle.exchange.specs.LineRules.{foundFault, tooLong, lineRules}
 use Rattle.exchange.specs.Headers.{Header, rawName, nameOf, valueOf, headerOf, namesIn, nameRule, headersSaid, headerKind, firstHeaderRules, headerRules, stationNames}
 use Rattle.exchange.specs.Columns.{Sort, bottle, ctd, nameFaults, flagFaults, requiredNames, namesOf, namesRules, kindsOf}
-use Rattle.exchange.specs.Rows.{cellFaults, rowFault, rowRules, isEndData}
+use Rattle.exchange.specs.Rows.{cellFaults, rowRules, boundFault, isEndData}
 use Rattle.exchange.specs.Grid.{starts}
-use Rattle.exchange.specs.Places.{Place, first, comments, headers, names, units, rows, after, stopped, stopAt, isMark, isBottle, isCtd, isComment, firstRules, afterHeader, firstStep, firstHeaderStep, headersStep, namesStep, unitsStep, afterComments, commentsStep, endData, rowsStep, step}
-use Rattle.laws.specs.RuleOrder.{lineList, columnAt, cellByCell, nameList, flagList, namesList, cellList, rowList, lastHeader, firstHeaderList, headerList, topList, rulesAt, dueHeaders, afterTop, nextPlace}
+use Rattle.exchange.specs.Places.{Table, Place, first, comments, headers, names, units, rows, after, stopped, stopAt, isMark, isBottle, isCtd, isComment, firstRules, afterHeader, firstStep, firstHeaderStep, headersStep, namesStep, unitsStep, afterComments, commentsStep, endData, rowsStep, step}
+use Rattle.laws.specs.RuleOrder.{lineList, columnAt, cellByCell, nameList, flagList, namesList, cellList, rowList, dataList, lastHeader, firstHeaderList, headerList, topList, rulesAt, dueHeaders, afterTop, nextPlace}
 use Rattle.laws.specs.Promises.{Kept, Broken}
 
 -- ---- the first broken rule of a list
@@ -172,11 +172,17 @@ unfolding firstOf rowList rowRules
 row-list n ks ts = ap (λ (r : Fault). unless (ltb n 1000000) 20 1 then r) (go (eqb (length ts) (length ks)) refl)
   where
     go : (b : Bool) → eqb (length ts) (length ks) ≡ b
-        → (unless b 15 1 then firstOf (cellByCell 0 (length ks) (cellList ks ts) ++ rowFault ks ts ∷ [])) ≡ (unless b 15 1 then cellFaults 1 ks ts then rowFault ks ts)
-    go true q =
-        first-append (cellByCell 0 (length ks) (cellList ks ts)) (rowFault ks ts ∷ [])
-        ∙ rw (rows-cells ks ts ks ts 0 refl refl (eqb-true (length ts) (length ks) q), column-first ts) (ap (λ (r : Fault). cellFaults 1 ks ts then r) (first-one (rowFault ks ts)))
+        → (unless b 15 1 then firstOf (cellByCell 0 (length ks) (cellList ks ts))) ≡ (unless b 15 1 then cellFaults 1 ks ts)
+    go true q = rw (rows-cells ks ts ks ts 0 refl refl (eqb-true (length ts) (length ks) q), column-first ts)
     go false q = refl
+
+data-list : (t : Table) (n : ℕ) (ts : List (List ℕ)) → firstOf (dataList t n ts) ≡ (unless (ltb n 1000000) 20 1 then rowRules (kindsOf (t .names)) ts then boundFault (t .names) ts)
+unfolding dataList
+data-list t n ts =
+    first-append (rowList n (kindsOf (t .names)) ts) (boundFault (t .names) ts ∷ [])
+    ∙ ap (λ (r : Fault). r then firstOf (boundFault (t .names) ts ∷ [])) (row-list n (kindsOf (t .names)) ts)
+    ∙ then-assoc (unless (ltb n 1000000) 20 1) (rowRules (kindsOf (t .names)) ts) (firstOf (boundFault (t .names) ts ∷ []))
+    ∙ ap (λ (r : Fault). unless (ltb n 1000000) 20 1 then rowRules (kindsOf (t .names)) ts then r) (first-one (boundFault (t .names) ts))
 
 first-header-list : (x : List ℕ) → firstOf (firstHeaderList x) ≡ (firstHeaderRules x then firstOf (lastHeader (headersSaid x - 1) (headerOf x ∷ [])))
 unfolding firstOf firstHeaderList firstHeaderRules
@@ -230,15 +236,15 @@ step-is l (comments s) x = go (isComment x) s
 step-is l (headers due hs) x = stop-header l x (headerRules (namesIn hs) x) (headerList due hs x) (due - 1) (hs ++ headerOf x ∷ []) (header-list due hs x)
 step-is l (names s hs) x = stop-own l x (namesRules s x) (namesList s (pieces 44 x)) (units s hs (namesOf x)) (names-list s x)
 step-is l (units s hs ns) x = stop-own l x _ (unless (eqb (length (pieces 44 x)) (length ns)) 15 1 ∷ []) (rows (record { sort = s; headers = hs; names = ns; line = l }) 0) (first-one (unless (eqb (length (pieces 44 x)) (length ns)) 15 1))
-step-is l (rows t n) x = ap (stopAt l (lineRules true x)) (go (isEndData x)) ∙ stop-line l x (cond (isEndData x) (unless (not (eqb n 0)) 19 1 ∷ []) (rowList n (kindsOf (t .names)) (pieces 44 x))) (cond (isEndData x) (after t n) (rows t (n + 1)))
+step-is l (rows t n) x = ap (stopAt l (lineRules true x)) (go (isEndData x)) ∙ stop-line l x (cond (isEndData x) (unless (not (eqb n 0)) 19 1 ∷ []) (dataList t n (pieces 44 x))) (cond (isEndData x) (after t n) (rows t (n + 1)))
   where
     ends : (z : Bool) → cond z (stopped 19 l 1) (after t n) ≡ stopAt l (unless (not z) 19 1 then clean) (after t n)
     ends true = refl
     ends false = refl
 
-    go : (b : Bool) → cond b (endData l t n) (stopAt l (unless (ltb n 1000000) 20 1 then rowRules (kindsOf (t .names)) (pieces 44 x)) (rows t (n + 1)))
-        ≡ stopAt l (firstOf (cond b (unless (not (eqb n 0)) 19 1 ∷ []) (rowList n (kindsOf (t .names)) (pieces 44 x)))) (cond b (after t n) (rows t (n + 1)))
+    go : (b : Bool) → cond b (endData l t n) (stopAt l (unless (ltb n 1000000) 20 1 then rowRules (kindsOf (t .names)) (pieces 44 x) then boundFault (t .names) (pieces 44 x)) (rows t (n + 1)))
+        ≡ stopAt l (firstOf (cond b (unless (not (eqb n 0)) 19 1 ∷ []) (dataList t n (pieces 44 x)))) (cond b (after t n) (rows t (n + 1)))
     go true = ends (eqb n 0)
-    go false = ap (λ (r : Fault). stopAt l r (rows t (n + 1))) (sym (row-list n (kindsOf (t .names)) (pieces 44 x)))
+    go false = ap (λ (r : Fault). stopAt l r (rows t (n + 1))) (sym (data-list t n (pieces 44 x)))
 step-is l (after t n) x = ap (λ (r : Fault). stopAt l r (after t n)) (sym (line-only false x))
 step-is l (stopped a b c) x = refl

@@ -28,7 +28,7 @@ use Rattle.text.proofs.LineLaws.{isPlain}
 use Rattle.exchange.specs.Faults.{clean, breaks, _then_, unless, kindFault}
 use Rattle.exchange.specs.LineRules.{lineRules}
 use Rattle.exchange.specs.Columns.{kindsOf}
-use Rattle.exchange.specs.Rows.{cellFaults, rowRules, isEndData}
+use Rattle.exchange.specs.Rows.{cellFaults, rowRules, boundFault, isEndData}
 use Rattle.laws.specs.Writes.{join, ungrid, Write, written}
 use Rattle.exchange.specs.Profiles.{grid}
 use Rattle.exchange.specs.Places.{Table, accepted, outcomeOf}
@@ -70,9 +70,8 @@ faults-kept (k ∷ ks) (t ∷ ts) (suc i) u c d g e =
 pub rules-kept : (ks : List ℕ) (ts : List (List ℕ)) (i : ℕ) (u : List ℕ) → isGood (judge (kindOf (getD ks i 0)) u) ≡ true → rowRules ks ts ≡ clean → rowRules ks (set ts i u) ≡ clean
 unfolding rowRules
 rules-kept ks ts i u g e =
-    let w = then-clean (unless (eqb (length ts) (length ks)) 15 1) (cellFaults 1 ks ts then clean) e in
-    let v = then-clean (cellFaults 1 ks ts) clean (w .1) in
-    rw (length-set ts i u, w .0, faults-kept ks ts i u 1 1 g (v .0))
+    let w = then-clean (unless (eqb (length ts) (length ks)) 15 1) (cellFaults 1 ks ts) e in
+    rw (length-set ts i u, w .0, faults-kept ks ts i u 1 1 g (w .1))
 
 -- ---- a row with a measured column is not the line END_DATA, whose one cell is no decimal
 end-no-row : (ks : List ℕ) (c : ℕ) → c < length ks → getD ks c 0 ≡ 0 → rowRules ks (bytes "END_DATA" ∷ []) ≡ clean → ⊥
@@ -173,8 +172,9 @@ module _ (f : List ℕ) (t : Table) (n r : ℕ) (e : outcomeOf f ≡ accepted t 
   pub grid-written : grid (ungrid (gridWritten f (t .line + r) ws)) ≡ gridWritten f (t .line + r) ws
   grid-written = grid-ungrid (gridWritten f (t .line + r) ws) (clean-set (grid f) (t .line + r) row (clean-grid f) (row-still .texts))
 
-  pub file-written : (c : ℕ) → c < length (kindsOf (t .names)) → getD (kindsOf (t .names)) c 0 ≡ 0 → outcomeOf (ungrid (gridWritten f (t .line + r) ws)) ≡ accepted t n
-  file-written c l m =
+  pub file-written : (c : ℕ) → c < length (kindsOf (t .names)) → getD (kindsOf (t .names)) c 0 ≡ 0 → boundFault (t .names) row ≡ clean → outcomeOf (ungrid (gridWritten f (t .line + r) ws)) ≡ accepted t n
+  file-written c l m b =
       let rules : rowRules (kindsOf (t .names)) (pieces 44 (join 44 row)) ≡ clean = rw (cells-row row (row-still .texts)) (row-still .cells) in
+      let bound : boundFault (t .names) (pieces 44 (join 44 row)) ≡ clean = rw (cells-row row (row-still .texts)) b in
       ap outcomeOf (ungrid-set f (t .line + r) row)
-      ∙ row-replaced f t n r (join 44 row) e h (row-free row (row-still .texts)) (row-still .line) (measured-goes-on (kindsOf (t .names)) (join 44 row) c l m rules) rules
+      ∙ row-replaced f t n r (join 44 row) e h (row-free row (row-still .texts)) (row-still .line) (measured-goes-on (kindsOf (t .names)) (join 44 row) c l m rules) rules bound

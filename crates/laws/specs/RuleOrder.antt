@@ -15,9 +15,9 @@ use Rattle.exchange.specs.Faults.{Fault, breaks, unless, kindFault, member, has
 use Rattle.exchange.specs.LineRules.{foundFault, tooLong}
 use Rattle.exchange.specs.Headers.{Header, rawName, nameOf, valueOf, headerOf, namesIn, nameRule, headersSaid, headerKind, stationNames}
 use Rattle.exchange.specs.Columns.{Sort, bottle, ctd, isFlag, hasParameter, requiredNames, namesOf, kindsOf}
-use Rattle.exchange.specs.Rows.{rowFault, isEndData}
+use Rattle.exchange.specs.Rows.{boundFault, isEndData}
 use Rattle.exchange.specs.Grid.{starts}
-use Rattle.exchange.specs.Places.{Place, first, comments, headers, names, units, rows, after, stopped, isMark, isBottle, isCtd, isComment}
+use Rattle.exchange.specs.Places.{Table, Place, first, comments, headers, names, units, rows, after, stopped, isMark, isBottle, isCtd, isComment}
 
 -- ---- rules 1, 3, 4 and, where that is asked, 5, of a line that has its line feed
 unfoldable pub lineList : Bool → List ℕ → List Fault
@@ -56,7 +56,11 @@ cellList ks ts k = kindFault (judge (kindOf (getD ks k 0)) (getD ts k [])) (colu
 
 unfoldable pub rowList : ℕ → List ℕ → List (List ℕ) → List Fault
 rowList n ks ts =
-    unless (ltb n 1000000) 20 1 ∷ unless (eqb (length ts) (length ks)) 15 1 ∷ cellByCell 0 (length ks) (cellList ks ts) ++ rowFault ks ts ∷ []
+    unless (ltb n 1000000) 20 1 ∷ unless (eqb (length ts) (length ks)) 15 1 ∷ cellByCell 0 (length ks) (cellList ks ts)
+
+-- and what binds the cells together
+unfoldable pub dataList : Table → ℕ → List (List ℕ) → List Fault
+dataList t n ts = rowList n (kindsOf (t .names)) ts ++ boundFault (t .names) ts ∷ []
 
 -- ---- headers: 13 belongs to the last, where none is due after it
 unfoldable pub lastHeader : ℕ → List Header → List Fault
@@ -85,7 +89,7 @@ rulesAt (comments s) x = cond (isComment x) (lineList false x) (lineList true x 
 rulesAt (headers due hs) x = lineList true x ++ headerList due hs x
 rulesAt (names s hs) x = lineList true x ++ namesList s (pieces 44 x)
 rulesAt (units s hs ns) x = lineList true x ++ unless (eqb (length (pieces 44 x)) (length ns)) 15 1 ∷ []
-rulesAt (rows t n) x = lineList true x ++ cond (isEndData x) (unless (not (eqb n 0)) 19 1 ∷ []) (rowList n (kindsOf (t .names)) (pieces 44 x))
+rulesAt (rows t n) x = lineList true x ++ cond (isEndData x) (unless (not (eqb n 0)) 19 1 ∷ []) (dataList t n (pieces 44 x))
 rulesAt (after t n) x = lineList false x
 rulesAt (stopped a b c) x = []
 
