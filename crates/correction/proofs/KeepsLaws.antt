@@ -9,8 +9,7 @@ use Rattle.exchange.specs.Columns.{kindOfName, kindsOf}
 use Rattle.exchange.specs.Places.{Table, Outcome, accepted, refused, outcomeOf}
 use Rattle.laws.specs.Writes.{ungrid}
 use Rattle.exchange.specs.Profiles.{grid}
-use Rattle.exchange.specs.Faults.{clean}
-use Rattle.exchange.specs.Rows.{boundFault}
+use Rattle.exchange.specs.Faults.{clean, firstOf}
 use Rattle.exchange.specs.Located.{cellsBy, cellsOf}
 use Rattle.exchange.proofs.AcceptLaws.{rows-kept}
 use Rattle.exchange.proofs.GridLaws.{cells-many}
@@ -20,6 +19,8 @@ use Rattle.laws.proofs.WriteLaws.{row-holds, Fits, file-written}
 use Rattle.text.specs.declared.Span.{Span}
 use Rattle.correction.specs.declared.Answer.{Answer}
 use Rattle.correction.specs.declared.Answer.the-variants.{Applied, Refused}
+use Rattle.exchange.specs.Rows.{boundList}
+use Rattle.exchange.specs.RuleWords.{boundFault}
 use Rattle.correction.specs.Corrections.{Order, answerOf, textsOf, correctedOf}
 use Rattle.correction.proofs.GeometryLaws.{Grid, Shape, shape, lineLong, ungrid-long}
 use Rattle.correction.proofs.PutLaws.{Put, puts, Fit, PutsDone, puts-done, inRow, puts-row}
@@ -42,7 +43,7 @@ on-line sh l (c ∷ cs) (x ∷ xs) = (refl, on-line sh l cs xs)
 
 -- what binds the cells of a row together holds of the corrected row
 bound-kept : (ns ts : List (List ℕ)) → boundFault ns ts ≡ clean
-unfolding boundFault
+unfolding boundFault boundList firstOf
 bound-kept ns ts = refl
 
 -- ---- an accepted file, an applied correction

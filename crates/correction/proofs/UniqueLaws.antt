@@ -1,6 +1,6 @@
 -- The names of an accepted file's columns are all different.
 use Prim.Native.Nat.{ℕ, zero, suc, _+_, _-_, _<_}
-use mathlib.Core.Path.{_≡_, refl, subst}
+use mathlib.Core.Path.{_≡_, refl, sym, subst, _∙_}
 use mathlib.Core.Bool.{Bool, true, false, cond, not}
 use mathlib.Core.List.{List, [], _∷_, _++_, map}
 use native.Mathlib.Omega.{arith}
@@ -11,23 +11,25 @@ use Rattle.text.specs.Cells.{pieces}
 use Rattle.text.specs.Spaces.{trim}
 use Rattle.text.specs.Names.{isName}
 use Rattle.exchange.specs.declared.names.NameFault.the-variants.{Clean, Bad, Repeated}
-use Rattle.exchange.specs.Faults.{Fault, clean, breaks, _then_, unless, member, hasAll}
-use Rattle.exchange.specs.LineRules.{lineRules, unended}
-use Rattle.exchange.specs.Headers.{Header, headerOf, namesIn, headersSaid, firstHeaderRules, headerRules, stationNames}
-use Rattle.exchange.specs.Columns.{Sort, bottle, ctd, namesOf, nameFaults, flagFaults, requiredNames, namesRules, kindsOf}
+use Rattle.exchange.specs.Faults.{Fault, clean, breaks, _then_, firstOf, unless, member, hasAll}
+use Rattle.exchange.specs.LineRules.{lineList}
+use Rattle.exchange.specs.Headers.{Header, headerOf, headersSaid}
+use Rattle.exchange.specs.Columns.{Sort, bottle, ctd, nameList, requiredNames, namesOf, namesList}
+use Rattle.exchange.specs.Rows.{isEndData}
+use Rattle.exchange.specs.Places.{Table, Place, first, comments, headers, names, units, rows, after, stopped, isComment, topList, rulesAt, endList, endRules, dueHeaders, afterTop, nextPlace, stopAt, step, accepted, last, run, outcomeOf}
+use Rattle.exchange.specs.RuleWords.{nameFaults, flagFaults, namesRules}
 use Rattle.exchange.specs.NameWords.{faultIn}
-use Rattle.exchange.specs.Rows.{rowRules, boundFault, isEndData}
-use Rattle.exchange.specs.Places.{Table, Place, first, comments, headers, names, units, rows, after, stopped, stopAt, isBottle, isComment, firstRules, afterComments, afterHeader, firstStep, commentsStep, firstHeaderStep, headersStep, namesStep, unitsStep, rowsStep, step, accepted, ending, cut, run, outcomeOf}
+use Rattle.exchange.proofs.RuleLaws.{first-append, names-rules}
 use Rattle.exchange.proofs.HeaderLaws.{then-clean}
 use Rattle.exchange.proofs.NameLaws.{clean-unique}
-use Rattle.exchange.proofs.AcceptLaws.{accepted-not-refused, accepted-table, fault-refused}
+use Rattle.exchange.proofs.AcceptLaws.{accepted-not-refused, accepted-table, cut-refused}
 
 -- ---- the names of a line that keeps its rules are all different
 abbrev pub Unique : List (List ℕ) → Type 0
 Unique ns = (i j : ℕ) → i < length ns → j < length ns → getD ns i [] ≡ getD ns j [] → i ≡ j
 
 names-fresh : (c b : ℕ) (earlier ts : List (List ℕ)) → nameFaults c earlier ts ≡ clean → faultIn earlier (map trim ts) b ≡ Clean
-unfolding nameFaults faultIn
+unfolding nameFaults nameList firstOf faultIn
 names-fresh c b earlier [] e = refl
 names-fresh c b earlier (t ∷ ts) e = go (isName (trim t)) (member (trim t) earlier) (names-fresh (c + length t + 1) (suc b) (earlier ++ trim t ∷ []) ts) (then-clean (unless (ltb (length earlier) 256) 11 c) _ e .1)
   where
@@ -39,11 +41,10 @@ names-fresh c b earlier (t ∷ ts) e = go (isName (trim t)) (member (trim t) ear
     go true false ih e = ih e
 
 names-unique : (k : Sort) (x : List ℕ) → namesRules k x ≡ clean → Unique (namesOf x)
-unfolding namesRules
 names-unique k x e i j a b q = go (eqb i j) refl
   where
     first-clean : faultIn [] (namesOf x) 0 ≡ Clean
-    first-clean = names-fresh 1 0 [] (pieces 44 x) (then-clean (nameFaults 1 [] (pieces 44 x)) (flagFaults 1 (namesOf x) (pieces 44 x) then unless (hasAll (requiredNames k) (namesOf x)) 13 1) e .0)
+    first-clean = names-fresh 1 0 [] (pieces 44 x) (then-clean (nameFaults 1 [] (pieces 44 x)) (flagFaults 1 (namesOf x) (pieces 44 x) then unless (hasAll (requiredNames k) (namesOf x)) 13 1) (sym (names-rules k x) ∙ e) .0)
 
     go : (z : Bool) → eqb i j ≡ z → i ≡ j
     go true z = eqb-true i j z
@@ -64,44 +65,40 @@ named-stop : (l : ℕ) (f : Fault) (p : Place) → (f ≡ clean → Named p) →
 named-stop l clean p h = h refl
 named-stop l (breaks a c) p h = tt
 
-named-header : (l due : ℕ) (hs : List Header) → Named (afterHeader l due hs)
-unfolding afterHeader
-named-header l zero hs = named-stop l (unless (hasAll stationNames (namesIn hs)) 13 1) (names ctd hs) (λ e. tt)
-named-header l (suc due) hs = tt
+named-due : (due : ℕ) (hs : List Header) → Named (dueHeaders due hs)
+named-due zero hs = tt
+named-due (suc due) hs = tt
 
-named-names : (l : ℕ) (k : Sort) (hs : List Header) (x : List ℕ) → Named (namesStep l k hs x)
-unfolding namesStep
-named-names l k hs x = named-stop l (lineRules true x then namesRules k x) (units k hs (namesOf x)) (λ e. names-unique k x (then-clean (lineRules true x) (namesRules k x) e .1))
+-- a names line that is passed keeps the rules of its names
+named-units : (k : Sort) (hs : List Header) (x : List ℕ) → firstOf (lineList true x ++ namesList k x) ≡ clean → Named (units k hs (namesOf x))
+unfolding namesRules
+named-units k hs x e = names-unique k x (then-clean (firstOf (lineList true x)) (firstOf (namesList k x)) (sym (first-append (lineList true x) (namesList k x)) ∙ e) .1)
 
-named-row : (l : ℕ) (t : Table) (n : ℕ) (x : List ℕ) → Unique (t .names) → Named (rowsStep l t n x)
-unfolding rowsStep
-named-row l t n x h = named-stop l (lineRules true x) _ (λ e. go (isEndData x) (eqb n 0))
+named-next : (l : ℕ) (p : Place) (x : List ℕ) → Named p → firstOf (rulesAt p x) ≡ clean → Named (nextPlace l p x)
+unfolding rulesAt nextPlace
+named-next l first x h e = tt
+named-next l (comments k) x h e = go (isComment x) k e
   where
-    f : Fault
-    f = unless (ltb n 1000000) 20 1 then rowRules (kindsOf (t .names)) (pieces 44 x) then boundFault (t .names) (pieces 44 x)
-
-    go : (a b : Bool) → Named (cond a (cond b (stopped 19 l 1) (after t n)) (stopAt l f (rows t (n + 1))))
-    go true true = tt
-    go true false = h
-    go false b = named-stop l f (rows t (n + 1)) (λ e. h)
+    go : (z : Bool) (k : Sort) → firstOf (cond z (lineList false x) (lineList true x ++ topList k x)) ≡ clean → Named (cond z (comments k) (afterTop k x))
+    go true k e = tt
+    go false bottle e = named-units bottle [] x e
+    go false ctd e = named-due (headersSaid x - 1) (headerOf x ∷ [])
+named-next l (headers due hs) x h e = named-due (due - 1) (hs ++ headerOf x ∷ [])
+named-next l (names k hs) x h e = named-units k hs x e
+named-next l (units k hs ns) x h e = h
+named-next l (rows t n) x h e = go (isEndData x)
+  where
+    go : (z : Bool) → Named (cond z (after t n) (rows t (n + 1)))
+    go true = h
+    go false = h
+named-next l (after t n) x h e = h
+named-next l (stopped a b c) x h e = tt
 
 named-step : (l : ℕ) (p : Place) (x : List ℕ) → Named p → Named (step l p x)
-unfolding firstStep commentsStep firstHeaderStep headersStep unitsStep
-named-step l first x h = named-stop l (lineRules true x then firstRules x) (comments (cond (isBottle x) bottle ctd)) (λ e. tt)
-named-step l (comments k) x h = go (isComment x) k
-  where
-    go : (z : Bool) (k : Sort) → Named (cond z (stopAt l (lineRules false x) (comments k)) (afterComments l k x))
-    go true k = named-stop l (lineRules false x) (comments k) (λ e. tt)
-    go false bottle = named-names l bottle [] x
-    go false ctd = named-stop l (lineRules true x then firstHeaderRules x) (afterHeader l (headersSaid x - 1) (headerOf x ∷ [])) (λ e. named-header l (headersSaid x - 1) (headerOf x ∷ []))
-named-step l (headers due hs) x h = named-stop l (lineRules true x then headerRules (namesIn hs) x) (afterHeader l (due - 1) (hs ++ headerOf x ∷ [])) (λ e. named-header l (due - 1) (hs ++ headerOf x ∷ []))
-named-step l (names k hs) x h = named-names l k hs x
-named-step l (units k hs ns) x h = named-stop l (lineRules true x then unless (eqb (length (pieces 44 x)) (length ns)) 15 1) (rows (record { sort = k; headers = hs; names = ns; line = l }) 0) (λ e. h)
-named-step l (rows t n) x h = named-row l t n x h
-named-step l (after t n) x h = named-stop l (lineRules false x) (after t n) (λ e. h)
-named-step l (stopped a b c) x h = tt
+named-step l p x h = named-stop l (firstOf (rulesAt p x)) (nextPlace l p x) (named-next l p x h)
 
-named-end : (l : ℕ) (p : Place) (t : Table) (n : ℕ) → Named p → ending l p ≡ accepted t n → Unique (t .names)
+named-end : (l : ℕ) (p : Place) (t : Table) (n : ℕ) → Named p → last l p [] ≡ accepted t n → Unique (t .names)
+unfolding endRules endList firstOf
 named-end l first t n h e = absurd (accepted-not-refused e)
 named-end l (comments k) t n h e = absurd (accepted-not-refused e)
 named-end l (headers due hs) t n h e = absurd (accepted-not-refused e)
@@ -111,21 +108,11 @@ named-end l (rows u m) t n h e = absurd (accepted-not-refused e)
 named-end l (after u m) t n h e = subst (λ (v : Table). Unique (v .names)) (accepted-table e) h
 named-end l (stopped a b c) t n h e = absurd (accepted-not-refused e)
 
-cut-refused : (l : ℕ) (p : Place) (x : List ℕ) (t : Table) (n : ℕ) → cut l p x ≡ accepted t n → ⊥
-cut-refused l first x t n e = fault-refused l (unended x) t n e
-cut-refused l (comments k) x t n e = fault-refused l (unended x) t n e
-cut-refused l (headers due hs) x t n e = fault-refused l (unended x) t n e
-cut-refused l (names k hs) x t n e = fault-refused l (unended x) t n e
-cut-refused l (units k hs ns) x t n e = fault-refused l (unended x) t n e
-cut-refused l (rows u m) x t n e = fault-refused l (unended x) t n e
-cut-refused l (after u m) x t n e = fault-refused l (unended x) t n e
-cut-refused l (stopped a b c) x t n e = accepted-not-refused e
-
 named-run : (ps : List (List ℕ)) (l : ℕ) (p : Place) (t : Table) (n : ℕ) → Named p → run l p ps ≡ accepted t n → Unique (t .names)
 unfolding run
 named-run [] l p t n h e = named-end l p t n h e
 named-run ([] ∷ []) l p t n h e = named-end l p t n h e
-named-run ((x ∷ xs) ∷ []) l p t n h e = absurd (cut-refused l p (x ∷ xs) t n e)
+named-run ((x ∷ xs) ∷ []) l p t n h e = absurd (cut-refused l p x xs t n e)
 named-run (x ∷ (y ∷ ys)) l p t n h e = named-run (y ∷ ys) (l + 1) (step l p x) t n (named-step l p x h) e
 
 pub accepted-unique : (f : List ℕ) (t : Table) (n : ℕ) → outcomeOf f ≡ accepted t n → Unique (t .names)

@@ -2,19 +2,21 @@
 use Prim.Native.Nat.{ℕ, zero, suc, _+_, _-_, _≤_, _<_}
 use mathlib.Core.Path.{_≡_, refl, sym, ap, subst, _∙_}
 use mathlib.Core.List.{List, [], _∷_, _++_}
-use mathlib.Core.Bool.{Bool, true, false, cond}
+use mathlib.Core.Bool.{Bool, true, false, cond, not}
 use native.Mathlib.Omega.{arith}
 use lib.ListN.{length, getD, drop}
 use lib.Dec.{eqb, ltb}
 use borrow.Author.Tests.{eqb-false}
 use Rattle.text.specs.Cells.{pieces}
-use Rattle.exchange.specs.Faults.{Fault, clean, breaks, _then_, unless, hasAll}
-use Rattle.exchange.specs.LineRules.{lineRules, unended}
-use Rattle.exchange.specs.Headers.{Header, headerOf, namesIn, headersSaid, firstHeaderRules, headerRules, stationNames}
-use Rattle.exchange.specs.Columns.{Sort, bottle, ctd, namesOf, namesRules, kindsOf}
-use Rattle.exchange.specs.Rows.{rowRules, boundFault, isEndData}
-use Rattle.exchange.specs.Places.{Table, Place, first, comments, headers, names, units, rows, after, stopped, stopAt, isBottle, isComment, firstRules, afterComments, afterHeader, firstStep, commentsStep, firstHeaderStep, headersStep, namesStep, unitsStep, endData, rowsStep, step, Outcome, accepted, refused, faultOutcome, ending, cut, last, run, outcomeOf}
+use Rattle.exchange.specs.Faults.{Fault, clean, breaks, firstOf, unless}
+use Rattle.exchange.specs.Headers.{Header, headerOf, headersSaid}
+use Rattle.exchange.specs.Columns.{Sort, bottle, ctd, kindsOf}
+use Rattle.exchange.specs.Rows.{isEndData}
+use Rattle.exchange.specs.Places.{Table, Place, first, comments, headers, names, units, rows, after, stopped, isComment, rulesAt, endList, endRules, dueHeaders, afterTop, nextPlace, stopAt, step, Outcome, accepted, refused, last, run, outcomeOf}
+use Rattle.exchange.specs.RuleWords.{lineRules, unended, rowRules, boundFault}
+use Rattle.exchange.proofs.RuleLaws.{end-step, row-step, Going, faultOutcome, last-cut}
 use Rattle.exchange.proofs.RunLaws.{run-stopped}
+use Rattle.exchange.proofs.HeaderLaws.{breaks-clean, then-clean}
 
 pub accepted-not-refused : {t : Table} {n a b c : ℕ} → refused a b c ≡ accepted t n → ⊥
 accepted-not-refused e = let z : _≡_ {A = ℕ} 0 1 = cc in omega arith
@@ -34,13 +36,28 @@ pub stops-refused : (l m k : ℕ) (f : Fault) (p : Place) (ps : List (List ℕ))
 stops-refused l m k clean p ps t n e = (refl, e)
 stops-refused l m k (breaks a c) p ps t n e = absurd (accepted-not-refused (sym (run-stopped l a k c ps) ∙ e))
 
+-- a last line that has no line feed is refused
+cut-going : (l : ℕ) (p : Place) (x : ℕ) (xs : List ℕ) (t : Table) (n : ℕ) → Going p → last l p (x ∷ xs) ≡ accepted t n → ⊥
+cut-going l p x xs t n g e = fault-refused l (unended (x ∷ xs)) t n (sym (last-cut l p (x ∷ xs) (omega arith) g) ∙ e)
+
+pub cut-refused : (l : ℕ) (p : Place) (x : ℕ) (xs : List ℕ) (t : Table) (n : ℕ) → last l p (x ∷ xs) ≡ accepted t n → ⊥
+unfolding endRules firstOf
+cut-refused l first x xs t n e = cut-going l first x xs t n tt e
+cut-refused l (comments k) x xs t n e = cut-going l (comments k) x xs t n tt e
+cut-refused l (headers due hs) x xs t n e = cut-going l (headers due hs) x xs t n tt e
+cut-refused l (names k hs) x xs t n e = cut-going l (names k hs) x xs t n tt e
+cut-refused l (units k hs ns) x xs t n e = cut-going l (units k hs ns) x xs t n tt e
+cut-refused l (rows u m) x xs t n e = cut-going l (rows u m) x xs t n tt e
+cut-refused l (after u m) x xs t n e = cut-going l (after u m) x xs t n tt e
+cut-refused l (stopped a b c) x xs t n e = accepted-not-refused e
+
 -- ---- after END_DATA the table and the number of rows stay
 pub after-accepted : (ps : List (List ℕ)) (l : ℕ) (t : Table) (m : ℕ) (u : Table) (n : ℕ) → run l (after t m) ps ≡ accepted u n → (t ≡ u) × (m ≡ n)
-unfolding run
+unfolding run endRules endList firstOf nextPlace
 after-accepted [] l t m u n e = (accepted-table e, accepted-rows e)
 after-accepted ([] ∷ []) l t m u n e = (accepted-table e, accepted-rows e)
-after-accepted ((x ∷ xs) ∷ []) l t m u n e = absurd (fault-refused l (unended (x ∷ xs)) u n e)
-after-accepted (x ∷ (y ∷ ys)) l t m u n e = after-accepted (y ∷ ys) (l + 1) t m u n (stops-refused (l + 1) 0 l (lineRules false x) (after t m) (y ∷ ys) u n e .1)
+after-accepted ((x ∷ xs) ∷ []) l t m u n e = absurd (cut-refused l (after t m) x xs u n e)
+after-accepted (x ∷ (y ∷ ys)) l t m u n e = after-accepted (y ∷ ys) (l + 1) t m u n (stops-refused (l + 1) 0 l (firstOf (rulesAt (after t m) x)) (after t m) (y ∷ ys) u n e .1)
 
 -- ---- the data lines
 pub record RowKept (t : Table) (ps : List (List ℕ)) (r : ℕ) : Type 0 where
@@ -58,36 +75,46 @@ pub record RowsKept (t : Table) (m : ℕ) (ps : List (List ℕ)) (u : Table) (n 
 none-left : (t : Table) (m : ℕ) (ps : List (List ℕ)) (u : Table) (n : ℕ) → (m ≡ 0 → ⊥) → t ≡ u → m ≡ n → RowsKept t m ps u n
 none-left t m ps u n z e d = record { table = e; more = omega arith; some = omega (arith, z, d); kept = λ r h. absurd (omega (arith, d)) }
 
+-- a line that is passed at the data place is END_DATA after some rows, or keeps the rules of a row
+module _ (l : ℕ) (t : Table) (m : ℕ) (x : List ℕ) (ps : List (List ℕ)) (u : Table) (n : ℕ) (e : run (l + 1) (step l (rows t m) x) ps ≡ accepted u n) where
+  pub end-passed : isEndData x ≡ true → (m ≡ 0 → ⊥) × (run (l + 1) (after t m) ps ≡ accepted u n)
+  end-passed q =
+      let w = stops-refused (l + 1) 0 l _ (after t m) ps u n (ap (λ (p : Place). run (l + 1) p ps) (sym (end-step l t m x q)) ∙ e) in
+      (go (eqb m 0) refl (then-clean (lineRules true x) _ (w .0) .1), w .1)
+    where
+      go : (z : Bool) → eqb m 0 ≡ z → unless (not z) 19 1 ≡ clean → m ≡ 0 → ⊥
+      go true q f = absurd (breaks-clean 19 1 f)
+      go false q f = eqb-false m 0 q
+
+  pub row-passed : isEndData x ≡ false
+      → (lineRules true x ≡ clean) × (unless (ltb m 1000000) 20 1 ≡ clean) × (rowRules (kindsOf (t .names)) (pieces 44 x) ≡ clean) × (boundFault (t .names) (pieces 44 x) ≡ clean)
+      × (run (l + 1) (rows t (m + 1)) ps ≡ accepted u n)
+  row-passed q =
+      let w = stops-refused (l + 1) 0 l _ (rows t (m + 1)) ps u n (ap (λ (p : Place). run (l + 1) p ps) (sym (row-step l t m x q)) ∙ e) in
+      let a = then-clean (lineRules true x) _ (w .0) in
+      let b = then-clean (unless (ltb m 1000000) 20 1) _ (a .1) in
+      let c = then-clean (rowRules (kindsOf (t .names)) (pieces 44 x)) (boundFault (t .names) (pieces 44 x)) (b .1) in
+      (a .0, b .0, c .0, c .1, w .1)
+
 pub rows-accepted : (ps : List (List ℕ)) (l : ℕ) (t : Table) (m : ℕ) (u : Table) (n : ℕ) → run l (rows t m) ps ≡ accepted u n → RowsKept t m ps u n
-unfolding run rowsStep
+unfolding run endRules endList firstOf
 rows-accepted [] l t m u n e = absurd (accepted-not-refused e)
 rows-accepted ([] ∷ []) l t m u n e = absurd (accepted-not-refused e)
-rows-accepted ((x ∷ xs) ∷ []) l t m u n e = absurd (fault-refused l (unended (x ∷ xs)) u n e)
-rows-accepted (x ∷ (y ∷ ys)) l t m u n e = by (isEndData x) refl (stops-refused (l + 1) 0 l (lineRules true x) _ (y ∷ ys) u n e) (rows-accepted (y ∷ ys) (l + 1) t (m + 1) u n)
+rows-accepted ((x ∷ xs) ∷ []) l t m u n e = absurd (cut-refused l (rows t m) x xs u n e)
+rows-accepted (x ∷ (y ∷ ys)) l t m u n e = by (isEndData x) refl (rows-accepted (y ∷ ys) (l + 1) t (m + 1) u n)
   where
     ps : List (List ℕ)
     ps = x ∷ (y ∷ ys)
 
-    f : Fault
-    f = (unless (ltb m 1000000) 20 1) then (rowRules (kindsOf (t .names)) (pieces 44 x)) then (boundFault (t .names) (pieces 44 x))
-
-    both : (g h : Fault) → (g then h) ≡ clean → (g ≡ clean) × (h ≡ clean)
-    both clean h e = (refl, e)
-    both (breaks a c) h e = let z : _≡_ {A = ℕ} 0 1 = cc in absurd (omega arith)
-
-    ends : (z : Bool) → eqb m 0 ≡ z → run (l + 1) (cond z (stopped 19 l 1) (after t m)) (y ∷ ys) ≡ accepted u n → RowsKept t m ps u n
-    ends true q e = absurd (accepted-not-refused (sym (run-stopped (l + 1) 19 l 1 (y ∷ ys)) ∙ e))
-    ends false q e = let w = after-accepted (y ∷ ys) (l + 1) t m u n e in none-left t m ps u n (eqb-false m 0 q) (w .0) (w .1)
-
-    by : (z : Bool) → isEndData x ≡ z → (lineRules true x ≡ clean) × (run (l + 1) (cond z (endData l t m) (stopAt l f (rows t (m + 1)))) (y ∷ ys) ≡ accepted u n)
-        → (run (l + 1) (rows t (m + 1)) (y ∷ ys) ≡ accepted u n → RowsKept t (m + 1) (y ∷ ys) u n) → RowsKept t m ps u n
-    by true q e ih = ends (eqb m 0) refl (e .1)
-    by false q e ih =
-        let w = stops-refused (l + 1) 0 l f (rows t (m + 1)) (y ∷ ys) u n (e .1) in
-        let k = ih (w .1) in
-        let v = both (unless (ltb m 1000000) 20 1) (rowRules (kindsOf (t .names)) (pieces 44 x) then boundFault (t .names) (pieces 44 x)) (w .0) in
-        let u = both (rowRules (kindsOf (t .names)) (pieces 44 x)) (boundFault (t .names) (pieces 44 x)) (v .1) in
-        record { table = k .table; more = omega (arith, k .more); some = k .some; kept = λ r h. go r h k (e .0) (u .0) (u .1) }
+    by : (z : Bool) → isEndData x ≡ z → (run (l + 1) (rows t (m + 1)) (y ∷ ys) ≡ accepted u n → RowsKept t (m + 1) (y ∷ ys) u n) → RowsKept t m ps u n
+    by true q ih =
+        let w = end-passed l t m x (y ∷ ys) u n e q in
+        let v = after-accepted (y ∷ ys) (l + 1) t m u n (w .1) in
+        none-left t m ps u n (w .0) (v .0) (v .1)
+    by false q ih =
+        let w = row-passed l t m x (y ∷ ys) u n e q in
+        let k = ih (w .4) in
+        record { table = k .table; more = omega (arith, k .more); some = k .some; kept = λ r h. go r h k (w .0) (w .2) (w .3) }
       where
         go : (r : ℕ) → r < n - m → RowsKept t (m + 1) (y ∷ ys) u n → lineRules true x ≡ clean → rowRules (kindsOf (t .names)) (pieces 44 x) ≡ clean → boundFault (t .names) (pieces 44 x) ≡ clean → RowKept t ps r
         go zero h k a b c = record { line = omega arith; bytes = a; cells = b; bound = c }
@@ -113,30 +140,31 @@ next-stop : (l k : ℕ) (f : Fault) (p : Place) → Next l p → Next l (stopAt 
 next-stop l k clean p h = h
 next-stop l k (breaks a c) p h = early tt
 
-next-header : (l due : ℕ) (hs : List Header) → Next l (afterHeader l due hs)
-unfolding afterHeader
-next-header l zero hs = next-stop l l (unless (hasAll stationNames (namesIn hs)) 13 1) (names ctd hs) (early tt)
+next-header : (l due : ℕ) (hs : List Header) → Next l (dueHeaders due hs)
+next-header l zero hs = early tt
 next-header l (suc due) hs = early tt
 
-pub next-step : (l : ℕ) (p : Place) (x : List ℕ) → Early p → Next l (step l p x)
-unfolding firstStep commentsStep firstHeaderStep headersStep namesStep unitsStep
-next-step l first x h = next-stop l l (lineRules true x then firstRules x) (comments (cond (isBottle x) bottle ctd)) (early tt)
-next-step l (comments k) x h = go (isComment x) k
+next-place : (l : ℕ) (p : Place) (x : List ℕ) → Early p → Next l (nextPlace l p x)
+unfolding nextPlace
+next-place l first x h = early tt
+next-place l (comments k) x h = go (isComment x) k
   where
-    go : (z : Bool) (k : Sort) → Next l (cond z (stopAt l (lineRules false x) (comments k)) (afterComments l k x))
-    go true k = next-stop l l (lineRules false x) (comments k) (early tt)
-    go false bottle = next-stop l l (lineRules true x then namesRules bottle x) (units bottle [] (namesOf x)) (early tt)
-    go false ctd = next-stop l l (lineRules true x then firstHeaderRules x) (afterHeader l (headersSaid x - 1) (headerOf x ∷ [])) (next-header l (headersSaid x - 1) (headerOf x ∷ []))
-next-step l (headers due hs) x h = next-stop l l (lineRules true x then headerRules (namesIn hs) x) (afterHeader l (due - 1) (hs ++ headerOf x ∷ [])) (next-header l (due - 1) (hs ++ headerOf x ∷ []))
-next-step l (names k hs) x h = next-stop l l (lineRules true x then namesRules k x) (units k hs (namesOf x)) (early tt)
-next-step l (units k hs ns) x h =
-    let t : Table = record { sort = k; headers = hs; names = ns; line = l } in
-    next-stop l l (lineRules true x then unless (eqb (length (pieces 44 x)) (length ns)) 15 1) (rows t 0) (table t refl)
-next-step l (rows t n) x h = absurd h
-next-step l (after t n) x h = absurd h
-next-step l (stopped a b c) x h = early tt
+    go : (z : Bool) (k : Sort) → Next l (cond z (comments k) (afterTop k x))
+    go true k = early tt
+    go false bottle = early tt
+    go false ctd = next-header l (headersSaid x - 1) (headerOf x ∷ [])
+next-place l (headers due hs) x h = next-header l (due - 1) (hs ++ headerOf x ∷ [])
+next-place l (names k hs) x h = early tt
+next-place l (units k hs ns) x h = table (record { sort = k; headers = hs; names = ns; line = l }) refl
+next-place l (rows t n) x h = absurd h
+next-place l (after t n) x h = absurd h
+next-place l (stopped a b c) x h = early tt
 
-pub early-ends : (l : ℕ) (p : Place) (t : Table) (n : ℕ) → Early p → ending l p ≡ accepted t n → ⊥
+pub next-step : (l : ℕ) (p : Place) (x : List ℕ) → Early p → Next l (step l p x)
+next-step l p x h = next-stop l l (firstOf (rulesAt p x)) (nextPlace l p x) (next-place l p x h)
+
+pub early-ends : (l : ℕ) (p : Place) (t : Table) (n : ℕ) → Early p → last l p [] ≡ accepted t n → ⊥
+unfolding endRules endList firstOf
 early-ends l first t n h e = accepted-not-refused e
 early-ends l (comments k) t n h e = accepted-not-refused e
 early-ends l (headers due hs) t n h e = accepted-not-refused e
@@ -145,16 +173,6 @@ early-ends l (units k hs ns) t n h e = accepted-not-refused e
 early-ends l (rows u m) t n h e = h
 early-ends l (after u m) t n h e = h
 early-ends l (stopped a b c) t n h e = accepted-not-refused e
-
-pub early-cut : (l : ℕ) (p : Place) (x : List ℕ) (t : Table) (n : ℕ) → Early p → cut l p x ≡ accepted t n → ⊥
-early-cut l first x t n h e = fault-refused l (unended x) t n e
-early-cut l (comments k) x t n h e = fault-refused l (unended x) t n e
-early-cut l (headers due hs) x t n h e = fault-refused l (unended x) t n e
-early-cut l (names k hs) x t n h e = fault-refused l (unended x) t n e
-early-cut l (units k hs ns) x t n h e = fault-refused l (unended x) t n e
-early-cut l (rows u m) x t n h e = h
-early-cut l (after u m) x t n h e = h
-early-cut l (stopped a b c) x t n h e = accepted-not-refused e
 
 -- the data lines come after the lines that the table counts
 pub record Reached (l : ℕ) (ps : List (List ℕ)) (t : Table) (n : ℕ) : Type 0 where
@@ -165,7 +183,7 @@ pub rows-reached : (ps : List (List ℕ)) (l : ℕ) (p : Place) (t : Table) (n :
 unfolding run
 rows-reached [] l p t n h e = absurd (early-ends l p t n h e)
 rows-reached ([] ∷ []) l p t n h e = absurd (early-ends l p t n h e)
-rows-reached ((x ∷ xs) ∷ []) l p t n h e = absurd (early-cut l p (x ∷ xs) t n h e)
+rows-reached ((x ∷ xs) ∷ []) l p t n h e = absurd (cut-refused l p x xs t n e)
 rows-reached (x ∷ (y ∷ ys)) l p t n h e = by (step l p x) (next-step l p x h) e (rows-reached (y ∷ ys) (l + 1))
   where
     by : (q : Place) → Next l q → run (l + 1) q (y ∷ ys) ≡ accepted t n

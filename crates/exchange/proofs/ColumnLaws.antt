@@ -20,9 +20,10 @@ use Rattle.text.proofs.CellLaws.{both-true}
 use Rattle.text.proofs.EqualLaws.{equal-same, equal-refl}
 use Rattle.exchange.specs.declared.names.NameFault.{NameFault}
 use Rattle.exchange.specs.declared.names.NameFault.the-variants.{Clean, Bad, Repeated}
-use Rattle.exchange.specs.Faults.{Fault, clean, breaks, _then_, unless, member, hasAll, placeIn}
+use Rattle.exchange.specs.Faults.{Fault, clean, breaks, _then_, unless, member, hasAll, placeIn, firstOf}
 use Rattle.exchange.specs.Headers.{stationNames}
-use Rattle.exchange.specs.Columns.{Sort, ctd, Column, isFlag, parameterOf, hasParameter, nameFaults, flagFaults, requiredNames, namesOf, namesRules, kindOfName, flagFrom, columnOf}
+use Rattle.exchange.specs.Columns.{Sort, ctd, Column, isFlag, parameterOf, hasParameter, requiredNames, namesOf, kindOfName, flagFrom, columnOf, nameList, flagList}
+use Rattle.exchange.specs.RuleWords.{nameFaults, flagFaults, namesRules}
 use Rattle.exchange.specs.declared.columns.Cells.{Cells}
 use Rattle.exchange.specs.declared.columns.Columns.{Columns}
 use Rattle.exchange.specs.Walks.{textIn, namesAt, asFault, sortFor, ColumnsRead}
@@ -30,6 +31,7 @@ use Rattle.exchange.specs.NameWords.{faultIn}
 use Rattle.exchange.specs.ColumnWords.{startOf, Placed, CellsFound, KindsRead, parameterPlace}
 use Rattle.exchange.proofs.NameLaws.{names-length, name-given, Within, fault-within, place-test, place-member, place-within, place-name, clean-fresh, clean-unique}
 use Rattle.exchange.proofs.CellsLaws.{start-next}
+use Rattle.exchange.proofs.RuleLaws.{names-rules}
 
 -- ---- the place of a parameter
 module _ (p : List ℕ) (ns : List (List ℕ)) (l : ℕ) (e : l ≡ parameterLength p) where
@@ -158,7 +160,7 @@ module _ (ts : List (List ℕ)) (k : ℕ) (h : k < length ts) where
   faults-here : flagFaults (startOf 1 ts k) (map trim ts) (drop k ts)
       ≡ ((unless (not (isFlag (getD (map trim ts) k [])) || hasParameter (map trim ts) (getD (map trim ts) k [])) 12 (startOf 1 ts k))
       then flagFaults (startOf 1 ts (k + 1)) (map trim ts) (drop (k + 1) ts))
-  unfolding flagFaults
+  unfolding flagFaults flagList firstOf
   faults-here = rw (start-next 1 ts k h, add-one k, ← here-trim, drop-cons ts k [] h)
 
   pub faults-stop : isFlag (getD (map trim ts) k []) ≡ true → hasParameter (map trim ts) (getD (map trim ts) k []) ≡ false
@@ -275,7 +277,7 @@ module _ (ts : List (List ℕ)) (k : ℕ) (of at : List ℕ) (w : Kinded ts k of
       getD-take k at j 0 (omega arith) ∙ w .marks j l ∙ ap (flagFrom 1 (getD (map trim ts) j [])) all-names)
 
   pub faults-done : clean ≡ flagFaults 1 (map trim ts) ts
-  unfolding flagFaults
+  unfolding flagFaults flagList firstOf
   faults-done = sym (w .left ∙ rw (drop-of-length-le ts {i = k} (omega arith)))
 
 -- ---- the turns of the walk over the names
@@ -366,17 +368,14 @@ module _ (r : Columns) (m c d : ℕ) (g : 0 < m) (p : r .number ≡ m) (q : r .c
 -- ---- the rules of the names line in their order
 module _ (k : Sort) (x : List ℕ) where
   pub rules-names : (m c : ℕ) → nameFaults 1 [] (pieces 44 x) ≡ breaks m c → namesRules k x ≡ breaks m c
-  unfolding namesRules
-  rules-names m c e = rw e
+  rules-names m c e = names-rules k x ∙ rw e
 
   module _ (e : nameFaults 1 [] (pieces 44 x) ≡ clean) where
     pub rules-flags : (m c : ℕ) → flagFaults 1 (namesOf x) (pieces 44 x) ≡ breaks m c → namesRules k x ≡ breaks m c
-    unfolding namesRules
-    rules-flags m c f = rw (e, f)
+    rules-flags m c f = names-rules k x ∙ rw (e, f)
 
     pub rules-required : (b : Bool) → flagFaults 1 (namesOf x) (pieces 44 x) ≡ clean → hasAll (requiredNames k) (namesOf x) ≡ b → namesRules k x ≡ unless b 13 1
-    unfolding namesRules
-    rules-required b f h = rw (e, f, h)
+    rules-required b f h = names-rules k x ∙ rw (e, f, h)
 
 -- ---- what the kinds say of the whole line
 module _ (x : List ℕ) (r : Columns) where
@@ -425,7 +424,7 @@ nameFault col f (Repeated k) = breaks 9 (col k)
 
 names-faults : (col : ℕ → ℕ) (c : ℕ) (earlier ts : List (List ℕ)) (m b : ℕ) → length earlier ≡ b → b + m ≡ 256 → ((j : ℕ) → col (b + j) ≡ startOf c ts j)
     → nameFaults c earlier ts ≡ nameFault col (overFault c m ts) (faultIn earlier (take m (map trim ts)) b)
-unfolding nameFaults faultIn startOf overFault
+unfolding nameFaults nameList firstOf faultIn startOf overFault
 names-faults col c earlier [] zero b l g f = refl
 names-faults col c earlier [] (suc m) b l g f = refl
 names-faults col c earlier (t ∷ ts) zero b l g f = rw (le-ltb (length earlier) 256 (omega arith))

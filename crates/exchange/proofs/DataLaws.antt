@@ -15,44 +15,44 @@ use Rattle.text.specs.Scans.{Stop}
 use Rattle.exchange.specs.declared.lines.Line.{Line}
 use Rattle.exchange.specs.declared.rows.Row.{Row}
 use Rattle.exchange.specs.declared.rows.Data.{Data}
-use Rattle.exchange.specs.Faults.{Fault, clean, breaks}
-use Rattle.exchange.specs.LineRules.{lineRules}
+use Rattle.exchange.specs.Faults.{Fault, clean, breaks, firstOf}
 use Rattle.exchange.specs.Columns.{kindsOf}
-use Rattle.exchange.specs.Rows.{rowRules, boundFault, isEndData}
-use Rattle.exchange.specs.Places.{Table, Place, rows, after, stopped, rowsStep, refused, run}
+use Rattle.exchange.specs.Rows.{isEndData, boundList}
+use Rattle.exchange.specs.Places.{Table, Place, rows, after, stopped, endList, endRules, step, refused, run}
+use Rattle.exchange.specs.RuleWords.{lineRules, rowRules, boundFault}
 use Rattle.exchange.specs.Profiles.{missingInRow, missingInRows, Key, keyOf, sameKey, bordersFrom, runCount}
 use Rattle.exchange.specs.Walks.{linesFrom, lineOf, asFault, textIn, rowsFrom, DataRead}
 use Rattle.exchange.specs.RowsWords.{spanText, keyAt, cellsOf, RowRead, dataRefused, border, withRow, DataHeld, RowAdded, DataEnded, LineRead}
 use Rattle.exchange.proofs.RowLaws.{none-within, fault-number}
+use Rattle.exchange.proofs.RuleLaws.{end-step, row-step}
 use Rattle.exchange.proofs.RunLaws.{run-stopped, run-line, lines-end, lines-more, line-clean, line-broken, piece-take}
 
 -- ---- one line of the data place
 module _ (l : ℕ) (t : Table) (n : ℕ) (x : List ℕ) where
-  step-broken : (a c : ℕ) → lineRules true x ≡ breaks a c → rowsStep l t n x ≡ stopped a l c
-  unfolding rowsStep
-  step-broken a c h = rw h
+  step-broken : (a c : ℕ) → lineRules true x ≡ breaks a c → step l (rows t n) x ≡ stopped a l c
+  step-broken a c h = go (isEndData x) refl
+    where
+      go : (b : Bool) → isEndData x ≡ b → step l (rows t n) x ≡ stopped a l c
+      go true q = end-step l t n x q ∙ rw h
+      go false q = row-step l t n x q ∙ rw h
 
   module _ (h : lineRules true x ≡ clean) where
-    step-none : isEndData x ≡ true → n ≡ 0 → rowsStep l t n x ≡ stopped 19 l 1
-    unfolding rowsStep
-    step-none y z = rw (h, y, eq-eqb n 0 z)
+    step-none : isEndData x ≡ true → n ≡ 0 → step l (rows t n) x ≡ stopped 19 l 1
+    step-none y z = end-step l t n x y ∙ rw (h, eq-eqb n 0 z)
 
-    step-end : isEndData x ≡ true → (n ≡ 0 → ⊥) → rowsStep l t n x ≡ after t n
-    unfolding rowsStep
-    step-end y z = rw (h, y, ne-eqb n 0 z)
+    step-end : isEndData x ≡ true → (n ≡ 0 → ⊥) → step l (rows t n) x ≡ after t n
+    step-end y z = end-step l t n x y ∙ rw (h, ne-eqb n 0 z)
 
-    step-full : isEndData x ≡ false → 1000000 ≤ n → rowsStep l t n x ≡ stopped 20 l 1
-    unfolding rowsStep
-    step-full y z = rw (h, y, le-ltb n 1000000 z)
+    step-full : isEndData x ≡ false → 1000000 ≤ n → step l (rows t n) x ≡ stopped 20 l 1
+    step-full y z = row-step l t n x y ∙ rw (h, le-ltb n 1000000 z)
 
     module _ (y : isEndData x ≡ false) (z : n < 1000000) where
-      step-refused : (a c : ℕ) → rowRules (kindsOf (t .names)) (pieces 44 x) ≡ breaks a c → rowsStep l t n x ≡ stopped a l c
-      unfolding rowsStep
-      step-refused a c f = rw (h, y, lt-ltb n 1000000 z) (rw f)
+      step-refused : (a c : ℕ) → rowRules (kindsOf (t .names)) (pieces 44 x) ≡ breaks a c → step l (rows t n) x ≡ stopped a l c
+      step-refused a c f = row-step l t n x y ∙ rw (h, lt-ltb n 1000000 z) (rw f)
 
-      step-row : rowRules (kindsOf (t .names)) (pieces 44 x) ≡ clean → rowsStep l t n x ≡ rows t (n + 1)
-      unfolding rowsStep boundFault
-      step-row f = rw (h, y, lt-ltb n 1000000 z) (rw f)
+      step-row : rowRules (kindsOf (t .names)) (pieces 44 x) ≡ clean → step l (rows t n) x ≡ rows t (n + 1)
+      unfolding boundFault boundList firstOf
+      step-row f = row-step l t n x y ∙ rw (h, lt-ltb n 1000000 z) (rw f)
 
 -- ---- another row
 pub rows-below : {n : ℕ} → n ≤ 1000000 → (n ≡ 1000000 → ⊥) → n < 1000000
@@ -126,7 +126,7 @@ module _ (s ks : List ℕ) (d : Data) where
       missing = refl;
       profiles = refl;
       stop = λ t l k y. line-broken l (rows t (d .rows)) s (d .at) true h (λ v. z (ap (λ (x : Line). x .number) q ∙ v))
-          (λ x n c e. step-broken l t (d .rows) x n c e) (λ x. refl)
+          (λ x n c e. step-broken l t (d .rows) x n c e) tt
           ∙ ap (λ (x : Line). refused (x .number) l (x .column)) (sym q);
       on = λ t l k y. absurd (z y);
     };
@@ -135,13 +135,13 @@ module _ (s ks : List ℕ) (d : Data) where
   }
 
   module _ (e : ℕ) (g : LineHeld s (d .at) e) where
-    run-next : (l : ℕ) (t : Table) (p : Place) → rowsStep l t (d .rows) (lineAt s (d .at)) ≡ p
+    run-next : (l : ℕ) (t : Table) (p : Place) → step l (rows t (d .rows)) (lineAt s (d .at)) ≡ p
         → run l (rows t (d .rows)) (linesFrom s (d .at)) ≡ run (l + 1) p (linesFrom s (e + 1))
     run-next l t p f = run-line l (rows t (d .rows)) s (d .at) (g .room)
         ∙ ap (λ (p : Place). run (l + 1) p (linesFrom s (d .at + length (lineAt s (d .at)) + 1))) f
         ∙ ap (λ (a : ℕ). run (l + 1) p (linesFrom s (a + 1))) (sym (g .end))
 
-    line-stopped : (n c : ℕ) → (n ≡ 0 → ⊥) → ((t : Table) (l : ℕ) → kindsOf (t .names) ≡ ks → rowsStep l t (d .rows) (lineAt s (d .at)) ≡ stopped n l c)
+    line-stopped : (n c : ℕ) → (n ≡ 0 → ⊥) → ((t : Table) (l : ℕ) → kindsOf (t .names) ≡ ks → step l (rows t (d .rows)) (lineAt s (d .at)) ≡ stopped n l c)
         → LineRead s ks d (dataRefused d n c)
     line-stopped n c z f = record {
       ended = λ y. record {
@@ -312,7 +312,7 @@ module _ (s ks : List ℕ) (i : ℕ) (d : Data) (x : SoFar s ks i d) where
   }
 
   pub so-far-out : length s ≤ d .at → DataRead s ks i (dataRefused d 14 1)
-  unfolding run
+  unfolding run endRules endList firstOf
   so-far-out h = record {
     stop = λ t l k z. x .on t l k ∙ ap (run (l + d .rows) (rows t (d .rows))) (lines-end s (d .at) h);
     on = λ t l k z. absurd (omega arith);

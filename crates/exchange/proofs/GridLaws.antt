@@ -14,10 +14,11 @@ use Rattle.text.specs.Cells.{firstPiece, laterPieces, pieces, lineAt, cellAt, n
 use Rattle.text.specs.declared.Span.{Span}
 use Rattle.text.proofs.CellLaws.{stop-moved, stop-short, next-within, next-from, next-parts, pieces-last, pieces-more}
 use Rattle.text.specs.Scans.{Stop}
-use Rattle.exchange.specs.Faults.{clean, breaks, _then_, unless}
+use Rattle.exchange.specs.Faults.{clean, breaks, _then_, unless, firstOf}
 use Rattle.exchange.specs.Columns.{kindOfName, kindsOf}
-use Rattle.exchange.specs.Rows.{cellFaults, rowRules}
+use Rattle.exchange.specs.Rows.{rowList}
 use Rattle.exchange.specs.Places.{Table, accepted, outcomeOf}
+use Rattle.exchange.specs.RuleWords.{cellFaults, rowRules}
 use Rattle.exchange.specs.Grid.{starts, lineStart, cellSpan}
 use Rattle.exchange.specs.Profiles.{grid}
 use Rattle.exchange.specs.Walks.{linesFrom}
@@ -103,7 +104,7 @@ getD-mapped (l ∷ ls) zero h = refl
 getD-mapped (l ∷ ls) (suc k) h = getD-mapped ls k (le-of-suc-le-suc h)
 
 pub cells-many : (ks : List ℕ) (ts : List (List ℕ)) → rowRules ks ts ≡ clean → length ts ≡ length ks
-unfolding rowRules
+unfolding rowRules cellFaults rowList firstOf
 cells-many ks ts e = go (eqb (length ts) (length ks)) refl e
   where
     go : (z : Bool) → eqb (length ts) (length ks) ≡ z → ((unless z 15 1) then (cellFaults 1 ks ts)) ≡ clean → length ts ≡ length ks

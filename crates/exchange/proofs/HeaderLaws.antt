@@ -22,11 +22,13 @@ use Rattle.text.proofs.CellLaws.{both-true, line-in, line-end, cell-in, cell-en
 use Rattle.text.proofs.SpaceLaws.{slice-take, span-bytes, trim-fits}
 use Rattle.text.proofs.JudgeLaws.{judged-stop, whole-stop}
 use Rattle.exchange.specs.declared.headers.Header.{Header}
-use Rattle.exchange.specs.Faults.{Fault, clean, breaks, _then_, unless, kindFault, member, placeIn}
-use Rattle.exchange.specs.LineRules.{lineRules, tooLong}
-use Rattle.exchange.specs.Headers.{Header as FileHeader, headerOf, rawName, nameOf, valueOf, namesIn, nameRule, countIn, headersSaid, headerKind, headerRules}
+use Rattle.exchange.specs.Faults.{Fault, clean, breaks, _then_, unless, kindFault, member, placeIn, firstOf}
+use Rattle.exchange.specs.LineRules.{tooLong, lineList, byteList}
+use Rattle.exchange.specs.Headers.{Header as FileHeader, headerOf, rawName, nameOf, valueOf, namesIn, nameRule, countIn, headersSaid, headerKind, headerList}
+use Rattle.exchange.specs.RuleWords.{lineRules, headerRules}
 use Rattle.exchange.specs.Walks.{lineFault, lineFor, lineOf, asFault, textIn, namesAt, headersAt}
 use Rattle.exchange.specs.HeadersWords.{Parted, namedFault, headerFault, HeaderRead}
+use Rattle.exchange.proofs.RuleLaws.{then-none}
 use Rattle.exchange.proofs.RunLaws.{piece-in, piece-take, line-feed, line-clean}
 
 -- ---- what is left of a first piece
@@ -140,7 +142,7 @@ module _ (control : Bool) (s : List ℕ) (i : ℕ) where
 
 -- a line that keeps them is short
 line-short : (control : Bool) (x : List ℕ) → lineRules control x ≡ clean → length x ≤ 8192
-unfolding lineRules
+unfolding lineRules lineList byteList firstOf
 line-short control x e = go (leb (length x) 8192) refl (then-clean (tooLong x) _ e .0)
   where
     go : (b : Bool) → leb (length x) 8192 ≡ b → unless b 1 8193 ≡ clean → length x ≤ 8192
@@ -318,7 +320,7 @@ kind-is r k t ks n e ek et es = e ∙ rw (ek, et, es)
 
 module _ (s : List ℕ) (i : ℕ) (earlier : List (List ℕ)) where
   pub header-named : (h : Header) → HeaderRead (namedFault s i) s i h → (h .number ≡ 0 → ⊥) → HeaderRead (headerFault earlier s i) s i h
-  unfolding headerRules
+  unfolding headerRules headerList firstOf
   header-named h r z =
       record {
         fault = then-first (h .number) (h .column) (lineFault true s i) (nameRule (lineAt s i)) _ z (r .fault);
@@ -330,8 +332,11 @@ module _ (s : List ℕ) (i : ℕ) (earlier : List (List ℕ)) where
     rules-left : headerFault earlier s i
         ≡ (unless (not (member (nameOf (lineAt s i)) earlier)) 9 1
         then kindFault (judge (kindOf (headerKind (nameOf (lineAt s i)))) (valueOf (lineAt s i))) (length (rawName (lineAt s i)) + 2))
-    unfolding headerRules
-    rules-left = then-second (lineFault true s i) (nameRule (lineAt s i)) _ (fault-clean (h .number) (h .column) _ (r .fault) z)
+    unfolding headerRules headerList firstOf
+    rules-left =
+        let x = lineAt s i in
+        then-second (lineFault true s i) (nameRule x) _ (fault-clean (h .number) (h .column) _ (r .fault) z)
+        ∙ ap (λ (f : Fault). unless (not (member (nameOf x) earlier)) 9 1 then f) (then-none (kindFault (judge (kindOf (headerKind (nameOf x))) (valueOf x)) (length (rawName x) + 2)))
 
     module _ (t : List ℕ) (et : t ≡ textIn s i (h .equals)) (p n : ℕ) (ep : p ≡ placeIn t earlier) (en : length earlier ≡ n) where
       pub name-is : t ≡ nameOf (lineAt s i)

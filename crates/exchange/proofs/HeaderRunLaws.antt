@@ -1,7 +1,7 @@
 -- The run over the header lines: the first of them, a later one, and what is due after the last.
 use Prim.Native.Nat.{ℕ, zero, suc, _+_, _-_, _≤_, _<_}
 use mathlib.Core.Path.{_≡_, refl, sym, ap, _∙_, subst}
-use mathlib.Core.List.{List, [], _∷_, _++_}
+use mathlib.Core.List.{List, [], _∷_}
 use mathlib.Core.Bool.{Bool, true, false}
 use native.Mathlib.Omega.{arith}
 use lib.ListN.{length, getD, take, set}
@@ -12,24 +12,25 @@ use Rattle.text.specs.Cells.{lineAt}
 use Rattle.text.proofs.CellLaws.{line-in, line-end}
 use Rattle.exchange.specs.declared.headers.Header.{Header}
 use Rattle.exchange.specs.declared.headers.Headers.{Headers}
-use Rattle.exchange.specs.Faults.{Fault, clean, breaks, _then_, unless, hasAll}
-use Rattle.exchange.specs.LineRules.{lineRules, unended}
+use Rattle.exchange.specs.Faults.{Fault, clean, breaks, _then_, unless, hasAll, firstOf}
 use Rattle.exchange.specs.Columns.{ctd}
-use Rattle.exchange.specs.Headers.{Header as FileHeader, headerOf, namesIn, nameRule, headersSaid, firstHeaderRules, headerRules, stationNames}
-use Rattle.exchange.specs.Places.{Place, comments, headers, names, stopped, stopAt, afterHeader, firstHeaderStep, headersStep, commentsStep, isComment, step, cut, ending, faultOutcome, Outcome, refused, run}
+use Rattle.exchange.specs.Headers.{Header as FileHeader, namesIn, nameRule, headersSaid, stationNames, firstHeaderList, lastHeader}
+use Rattle.exchange.specs.Places.{Place, comments, headers, names, stopped, isComment, endList, endRules, stopAt, step, Outcome, refused, last, run}
+use Rattle.exchange.specs.RuleWords.{lineRules, firstHeaderRules}
 use Rattle.exchange.specs.Walks.{linesFrom, StartsAt, lineFault, lineFor, lineOf, namesAt, headersAt, HeadersRead}
 use Rattle.exchange.specs.HeadersWords.{Parted, namedFault, headerFault, HeaderRead, HeadersPlaced}
+use Rattle.exchange.proofs.RuleLaws.{then-none, afterHeader, first-header-step, header-step, Going, faultOutcome}
 use Rattle.exchange.proofs.RunLaws.{run-stopped, run-line, lines-end, line-clean, line-broken-here, starts-next}
 use Rattle.exchange.proofs.HeaderLaws.{breaks-clean, fault-clean, fault-broken, then-clean, then-first, then-second, line-zero, zero-line, headers-names, headers-more}
 
 -- ---- a line at a place whose step is by rules 1 to 5 and then others
-run-ended : (l : ℕ) (p : Place) (s : List ℕ) (i : ℕ) → length s ≤ i → run l p (linesFrom s i) ≡ ending l p
+run-ended : (l : ℕ) (p : Place) (s : List ℕ) (i : ℕ) → length s ≤ i → run l p (linesFrom s i) ≡ last l p []
 unfolding run
 run-ended l p s i h = ap (run l p) (lines-end s i h)
 
 module _ (l : ℕ) (p : Place) (s : List ℕ) (i : ℕ) (h : i < length s) (g : Fault) (on : Place)
     (es : step l p (lineAt s i) ≡ stopAt l (lineRules true (lineAt s i) then g) on)
-    (ec : (x : List ℕ) → cut l p x ≡ faultOutcome l (unended x)) where
+    (ec : Going p) where
   run-clean : (lineFault true s i then g) ≡ clean → run l p (linesFrom s i) ≡ run (l + 1) on (linesFrom s (i + length (lineAt s i) + 1))
   run-clean e =
       let a = then-clean (lineFault true s i) g e in
@@ -58,7 +59,7 @@ abbrev pub left : List ℕ → ℕ → ℕ → List ℕ → List ℕ → ℕ →
 left s n k bs es l i = run l (afterHeader (l - 1) (n - k) (headersAt s k bs es)) (linesFrom s i)
 
 after-due : (l d : ℕ) (hs : List FileHeader) → 0 < d → afterHeader l d hs ≡ headers d hs
-unfolding afterHeader
+unfolding afterHeader lastHeader firstOf
 after-due l zero hs h = absurd (omega arith)
 after-due l (suc d) hs h = refl
 
@@ -79,30 +80,27 @@ not-comment s i h n = go (eqb (getD s i 0) 10) refl
     go true e = ap (λ (x : List ℕ). equal (take 1 x) (35 ∷ [])) (line-end s i h (eqb-true (getD s i 0) 10 e))
     go false e = ap (λ (x : List ℕ). equal (take 1 x) (35 ∷ [])) (line-in s i h e) ∙ rw (ne-eqb (getD s i 0) 35 n)
 
-first-step : (l : ℕ) (x : List ℕ) → isComment x ≡ false
-    → step l (comments ctd) x ≡ stopAt l (lineRules true x then firstHeaderRules x) (afterHeader l (headersSaid x - 1) (headerOf x ∷ []))
-unfolding commentsStep firstHeaderStep
-first-step l x e = rw e
-
 pub first-ended : (s : List ℕ) (i l : ℕ) → length s ≤ i → run l (comments ctd) (linesFrom s i) ≡ refused 14 l 1
+unfolding endRules endList firstOf
 first-ended s i l h = run-ended l (comments ctd) s i h
 
 module _ (s : List ℕ) (i l : ℕ) (h : i < length s) (n : getD s i 0 ≡ 35 → ⊥) (r : Header) (w : HeaderRead (namedFault s i) s i r) where
   first-broken : (a c : ℕ) → (lineFault true s i then firstHeaderRules (lineAt s i)) ≡ breaks a c → run l (comments ctd) (linesFrom s i) ≡ refused a l c
   first-broken a c e =
-      run-broken l (comments ctd) s i h (firstHeaderRules (lineAt s i)) _ (first-step l (lineAt s i) (not-comment s i h n)) (λ x. refl) a c e
+      run-broken l (comments ctd) s i h (firstHeaderRules (lineAt s i)) _ (first-header-step l (lineAt s i) (not-comment s i h n)) tt a c e
 
   pub first-refused : (r .number ≡ 0 → ⊥) → run l (comments ctd) (linesFrom s i) ≡ refused (r .number) l (r .column)
-  unfolding firstHeaderRules
+  unfolding firstHeaderRules firstHeaderList firstOf
   first-refused z =
       first-broken (r .number) (r .column)
       (fault-broken (r .number) (r .column) _ (then-first (r .number) (r .column) (lineFault true s i) (nameRule (lineAt s i)) _ z (w .fault)) z)
 
   module _ (z : r .number ≡ 0) (k : ℕ) (ek : k ≡ headersSaid (lineAt s i)) where
     first-rules : (lineFault true s i then firstHeaderRules (lineAt s i)) ≡ unless (ltb 0 k) 8 1
-    unfolding firstHeaderRules
+    unfolding firstHeaderRules firstHeaderList firstOf
     first-rules =
         then-second (lineFault true s i) (nameRule (lineAt s i)) _ (fault-clean (r .number) (r .column) _ (w .fault) z)
+        ∙ then-none (unless (ltb 0 (headersSaid (lineAt s i))) 8 1)
         ∙ ap (λ (x : ℕ). unless (ltb 0 x) 8 1) (sym ek)
 
     pub first-none : k ≡ 0 → run l (comments ctd) (linesFrom s i) ≡ refused 8 l 1
@@ -113,7 +111,7 @@ module _ (s : List ℕ) (i l : ℕ) (h : i < length s) (n : getD s i 0 ≡ 35 �
     unfolding headersAt
     first-on e bs es lb le =
         let t = w .parted z in
-        run-clean l (comments ctd) s i h (firstHeaderRules (lineAt s i)) _ (first-step l (lineAt s i) (not-comment s i h n)) (λ x. refl)
+        run-clean l (comments ctd) s i h (firstHeaderRules (lineAt s i)) _ (first-header-step l (lineAt s i) (not-comment s i h n)) tt
         (first-rules ∙ ap (λ (b : Bool). unless b 8 1) (lt-ltb 0 k (positive e)))
         ∙ run-same s (l + 1) l (l + 1 - 1) (headersSaid (lineAt s i) - 1) (k - 1) (i + length (lineAt s i) + 1) (r .end + 1) _ _
         (omega arith) (ap (λ (x : ℕ). x - 1) (sym ek)) (sym (headers-more s 0 bs es i (r .equals) (r .end) lb le t)) (omega (arith, t .end))
@@ -122,17 +120,13 @@ module _ (s : List ℕ) (i l : ℕ) (h : i < length s) (n : getD s i 0 ≡ 35 �
         positive e = omega arith
 
 -- ---- a later header line
-headers-step : (l d : ℕ) (hs : List FileHeader) (x : List ℕ)
-    → step l (headers d hs) x ≡ stopAt l (lineRules true x then headerRules (namesIn hs) x) (afterHeader l (d - 1) (hs ++ headerOf x ∷ []))
-unfolding headersStep
-headers-step l d hs x = refl
-
 module _ (s : List ℕ) (n k : ℕ) (bs es : List ℕ) (l i : ℕ) where
   module _ (m : k < n) where
     left-due : left s n k bs es l i ≡ run l (headers (n - k) (headersAt s k bs es)) (linesFrom s i)
     left-due = ap (λ (p : Place). run l p (linesFrom s i)) (after-due (l - 1) (n - k) (headersAt s k bs es) (omega arith))
 
     pub left-ended : length s ≤ i → left s n k bs es l i ≡ refused 14 l 1
+    unfolding endRules endList firstOf
     left-ended h = left-due ∙ run-ended l (headers (n - k) (headersAt s k bs es)) s i h
 
     module _ (h : i < length s) (r : Header) (w : HeaderRead (headerFault (namesAt s k bs es) s i) s i r) where
@@ -142,7 +136,7 @@ module _ (s : List ℕ) (n k : ℕ) (bs es : List ℕ) (l i : ℕ) where
       pub left-refused : (r .number ≡ 0 → ⊥) → left s n k bs es l i ≡ refused (r .number) l (r .column)
       left-refused z =
           left-due
-          ∙ run-broken l (headers (n - k) (headersAt s k bs es)) s i h _ _ (headers-step l (n - k) (headersAt s k bs es) (lineAt s i)) (λ x. refl)
+          ∙ run-broken l (headers (n - k) (headersAt s k bs es)) s i h _ _ (header-step l (n - k) (headersAt s k bs es) (lineAt s i)) tt
           (r .number) (r .column) (by-names ∙ fault-broken (r .number) (r .column) _ (w .fault) z)
 
       pub left-on : r .number ≡ 0 → k < length bs → k < length es
@@ -150,7 +144,7 @@ module _ (s : List ℕ) (n k : ℕ) (bs es : List ℕ) (l i : ℕ) where
       left-on z lb le =
           let t = w .parted z in
           left-due
-          ∙ run-clean l (headers (n - k) (headersAt s k bs es)) s i h _ _ (headers-step l (n - k) (headersAt s k bs es) (lineAt s i)) (λ x. refl)
+          ∙ run-clean l (headers (n - k) (headersAt s k bs es)) s i h _ _ (header-step l (n - k) (headersAt s k bs es) (lineAt s i)) tt
           (by-names ∙ fault-clean (r .number) (r .column) _ (w .fault) z)
           ∙ run-same s (l + 1) l (l + 1 - 1) (n - k - 1) (n - (k + 1)) (i + length (lineAt s i) + 1) (r .end + 1) _ _
           (omega arith) (omega arith) (sym (headers-more s k bs es i (r .equals) (r .end) lb le t)) (omega (arith, t .end))
@@ -158,10 +152,11 @@ module _ (s : List ℕ) (n k : ℕ) (bs es : List ℕ) (l i : ℕ) where
   -- ---- after the last
   module _ (m : n ≤ k) (b : Bool) (eb : b ≡ hasAll stationNames (namesAt s k bs es)) where
     left-by : left s n k bs es l i ≡ run l (stopAt (l - 1) (unless b 13 1) (names ctd (headersAt s k bs es))) (linesFrom s i)
-    unfolding afterHeader
+    unfolding afterHeader lastHeader firstOf
     left-by =
         let d : n - k ≡ 0 = omega arith in
         ap (λ (x : ℕ). run l (afterHeader (l - 1) x (headersAt s k bs es)) (linesFrom s i)) d
+        ∙ ap (λ (f : Fault). run l (stopAt (l - 1) f (names ctd (headersAt s k bs es))) (linesFrom s i)) (then-none (unless (hasAll stationNames (namesIn (headersAt s k bs es))) 13 1))
         ∙ ap (λ (c : Bool). run l (stopAt (l - 1) (unless c 13 1) (names ctd (headersAt s k bs es))) (linesFrom s i))
         (ap (hasAll stationNames) (headers-names s k bs es) ∙ sym eb)
 

@@ -17,5 +17,6 @@ pub mod HeaderRunLaws
 pub mod LinePassLaws
 pub mod NameLaws
 pub mod RowLaws
+pub mod RuleLaws
 pub mod RunLaws
 pub mod TopLaws

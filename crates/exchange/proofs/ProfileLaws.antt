@@ -16,8 +16,8 @@ use Rattle.exchange.specs.declared.profiles.Run.{Run}
 use Rattle.exchange.specs.declared.rows.Row.{Row}
 use Rattle.exchange.specs.Faults.{clean}
 use Rattle.exchange.specs.Columns.{kindsOf}
-use Rattle.exchange.specs.Rows.{rowRules}
 use Rattle.exchange.specs.Places.{Table}
+use Rattle.exchange.specs.RuleWords.{rowRules}
 use Rattle.exchange.specs.Profiles.{Key, keyOf, sameKey, labelsFrom, labels, rowsOf}
 use Rattle.exchange.specs.Walks.{linesFrom, rowsFrom, asFault}
 use Rattle.exchange.specs.RowsWords.{keyAt, KeysWithin, cellsOf, RowRead}

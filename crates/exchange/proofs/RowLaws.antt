@@ -21,11 +21,12 @@ use Rattle.text.specs.Scans.{Stop}
 use Rattle.text.proofs.CellLaws.{stop-moved, stop-holds, stop-short, to-end, next-within, next-from, next-in, next-end, next-parts, cell-in, cell-end, pieces-last, pieces-more}
 use Rattle.text.proofs.JudgeLaws.{judged-at, judged-number}
 use Rattle.text.proofs.SpaceLaws.{span-bytes}
-use Rattle.exchange.specs.Faults.{Fault, clean, breaks, _then_, kindFault}
-use Rattle.exchange.specs.Rows.{cellFaults, rowRules}
+use Rattle.exchange.specs.Faults.{Fault, clean, breaks, _then_, kindFault, firstOf}
 use Rattle.exchange.specs.Profiles.{missingInRow, cellOfKind, keyOf}
 use Rattle.exchange.specs.Walks.{asFault}
 use Rattle.exchange.specs.declared.rows.Row.{Row}
+use Rattle.exchange.specs.Rows.{cellList, rowList}
+use Rattle.exchange.specs.RuleWords.{cellFaults, rowRules}
 use Rattle.exchange.specs.RowsWords.{spanText, keyAt, KeysWithin, cellsOf, rowRefused, RowRead}
 
 -- ---- one verdict
@@ -159,16 +160,16 @@ record CellRefused (s : List ℕ) (e : ℕ) (ks : List ℕ) (at g : ℕ) (r : Ce
 
 module _ {s : List ℕ} {at e : ℕ} (t : Stop 44 s at e) (k : ℕ) (ks : List ℕ) where
   faults-bad : (c : ℕ) → isGood (verdictAt s k at) ≡ false → cellFaults c (k ∷ ks) (cellsOf s at) ≡ breaks (numberOf (verdictAt s k at)) c
-  unfolding cellFaults
+  unfolding cellFaults cellList firstOf
   faults-bad c h = rw (fault-bad (verdictAt s k at) c h)
 
   faults-last : (c : ℕ) → isGood (verdictAt s k at) ≡ true → getD s (next 44 s at) 0 ≡ 10 → cellFaults c (k ∷ []) (cellsOf s at) ≡ clean
-  unfolding cellFaults
+  unfolding cellFaults cellList firstOf
   faults-last c h z = rw (fault-good (verdictAt s k at) c h)
 
   faults-more : (c : ℕ) → isGood (verdictAt s k at) ≡ true → getD s (next 44 s at) 0 ≡ 44
       → cellFaults c (k ∷ ks) (cellsOf s at) ≡ cellFaults (c + (next 44 s at - at) + 1) ks (cellsOf s (next 44 s at + 1))
-  unfolding cellFaults next
+  unfolding cellFaults cellList firstOf next
   faults-more c h z =
       let n : (at + length (cellAt 44 s at)) - at ≡ length (cellAt 44 s at) = omega arith in
       ap (cellFaults c (k ∷ ks)) (cells-more t z) ∙ rw (n, fault-good (verdictAt s k at) c h)
@@ -361,11 +362,11 @@ fault-number (suc n) c h = refl
 
 module _ (ks : List ℕ) (ts : List (List ℕ)) where
   rules-count : (length ts ≡ length ks → ⊥) → rowRules ks ts ≡ breaks 15 1
-  unfolding rowRules
+  unfolding rowRules cellFaults rowList firstOf
   rules-count h = rw (ne-eqb (length ts) (length ks) h)
 
   rules-cells : length ts ≡ length ks → rowRules ks ts ≡ cellFaults 1 ks ts
-  unfolding rowRules
+  unfolding rowRules cellFaults rowList firstOf
   rules-cells h = rw (eq-eqb (length ts) (length ks) h)
 
 -- a row that keeps them

@@ -12,14 +12,16 @@ use Rattle.text.specs.declared.Found.{Found}
 use Rattle.text.specs.declared.Found.the-variants.{At, Nowhere}
 use Rattle.text.specs.Cells.{firstPiece, laterPieces, pieces, lineAt}
 use Rattle.text.specs.Lines.{illFormed, returnAt, controlAt}
-use Rattle.exchange.specs.Faults.{Fault, clean, breaks, _then_, unless}
-use Rattle.exchange.specs.LineRules.{lineRules, unended, foundFault, tooLong}
-use Rattle.exchange.specs.Places.{Place, stopped, step, cut, faultOutcome, refused, run}
+use Rattle.exchange.specs.Faults.{Fault, clean, breaks, _then_, unless, firstOf}
+use Rattle.exchange.specs.LineRules.{foundFault, tooLong, lineList, byteList, cutList}
+use Rattle.exchange.specs.Places.{Place, stopped, rulesAt, endRules, nextPlace, step, refused, run}
+use Rattle.exchange.specs.RuleWords.{lineRules, unended}
 use Rattle.exchange.specs.Walks.{linesFrom, StartsAt, lineFault, lineFor, lineOf}
+use Rattle.exchange.proofs.RuleLaws.{Going, faultOutcome, last-cut}
 
 -- after a broken rule nothing changes
 pub run-stopped : (l n k c : ℕ) (ps : List (List ℕ)) → run l (stopped n k c) ps ≡ refused n k c
-unfolding run
+unfolding run rulesAt endRules nextPlace firstOf
 run-stopped l n k c [] = refl
 run-stopped l n k c ([] ∷ []) = refl
 run-stopped l n k c ((x ∷ xs) ∷ []) = refl
@@ -97,10 +99,9 @@ unfolding run
 run-line l p s i h = rw (lines-more s i h)
 
 -- a last line that has none
-run-cut : (l : ℕ) (p : Place) (x : List ℕ) → 0 < length x → run l p (x ∷ []) ≡ cut l p x
+run-cut : (l : ℕ) (p : Place) (x : List ℕ) → 0 < length x → Going p → run l p (x ∷ []) ≡ faultOutcome l (unended x)
 unfolding run
-run-cut l p [] k = absurd (omega arith)
-run-cut l p (y ∷ ys) k = refl
+run-cut l p x h g = last-cut l p x h g
 
 -- ---- rules 1 to 5 of a line, which `line_at` gives by their number
 abbrev Numbered : Fault → Type 0
@@ -124,19 +125,19 @@ numbered-cond true f h = h
 numbered-cond false f h = 0
 
 numbered-rules : (control : Bool) (x : List ℕ) → Numbered (lineRules control x)
-unfolding lineRules
+unfolding lineRules lineList byteList firstOf
 numbered-rules control x =
     numbered-then (tooLong x) _ (numbered-unless (leb (length x) 8192) 1 8193 (λ e. omega arith))
     (numbered-then (foundFault 3 (illFormed x)) _ (numbered-found 3 (illFormed x) (λ e. omega arith))
     (numbered-then (foundFault 4 (returnAt x)) _ (numbered-found 4 (returnAt x) (λ e. omega arith))
-    (numbered-cond control (foundFault 5 (controlAt x)) (numbered-found 5 (controlAt x) (λ e. omega arith)))))
+    (numbered-then (cond control (foundFault 5 (controlAt x)) clean) clean (numbered-cond control (foundFault 5 (controlAt x)) (numbered-found 5 (controlAt x) (λ e. omega arith))) 0)))
 
 numbered-clean : (f : Fault) (e : ℕ) → Numbered f → lineFor f e .number ≡ 0 → f ≡ clean
 numbered-clean clean e a h = refl
 numbered-clean (breaks n c) e a h = absurd (a h)
 
 unended-number : (x : List ℕ) (e : ℕ) → lineFor (unended x) e .number ≡ 0 → ⊥
-unfolding unended
+unfolding unended cutList firstOf
 unended-number x e h = go (leb (length x) 8192) h
   where
     go : (b : Bool) → lineFor (unless b 1 8193 then breaks 2 (length x + 1)) e .number ≡ 0 → ⊥
@@ -164,7 +165,7 @@ module _ (control : Bool) (s : List ℕ) (i : ℕ) where
   -- another number: the run from this line on is refused there
   pub line-broken-here : (l : ℕ) (p : Place) → i < length s → (lineOf control s i .number ≡ 0 → ⊥)
       → ((n c : ℕ) → lineRules control (lineAt s i) ≡ breaks n c → step l p (lineAt s i) ≡ stopped n l c)
-      → ((x : List ℕ) → cut l p x ≡ faultOutcome l (unended x))
+      → Going p
       → run l p (linesFrom s i) ≡ refused (lineOf control s i .number) l (lineOf control s i .column)
   unfolding lineOf lineFault
   line-broken-here l p h z f g = go (ltb (i + length (lineAt s i)) (length s)) refl z
@@ -188,11 +189,11 @@ module _ (control : Bool) (s : List ℕ) (i : ℕ) where
       go true e z = ended (ltb-true _ _ e) (lineRules control (lineAt s i)) refl z
       go false e z =
           let k = ltb-false _ _ e in
-          rw (lines-cut s i k) (run-cut l p (lineAt s i) (omega arith) ∙ g (lineAt s i) ∙ shown (unended (lineAt s i)) _)
+          rw (lines-cut s i k) (run-cut l p (lineAt s i) (omega arith) g ∙ shown (unended (lineAt s i)) _)
 
 pub line-broken : (l : ℕ) (p : Place) (s : List ℕ) (i : ℕ) (control : Bool) → i < length s → (lineOf control s i .number ≡ 0 → ⊥)
     → ((x : List ℕ) (n c : ℕ) → lineRules control x ≡ breaks n c → step l p x ≡ stopped n l c)
-    → ((x : List ℕ) → cut l p x ≡ faultOutcome l (unended x))
+    → Going p
     → run l p (linesFrom s i) ≡ refused (lineOf control s i .number) l (lineOf control s i .column)
 line-broken l p s i control h z f g = line-broken-here control s i l p h z (f (lineAt s i)) g
 

@@ -14,17 +14,18 @@ use Rattle.text.proofs.CellLaws.{line-in, line-end, count-step}
 use Rattle.exchange.specs.declared.columns.Columns.{Columns}
 use Rattle.exchange.specs.declared.lines.Line.{Line}
 use Rattle.exchange.specs.declared.survey.Survey.{Survey}
-use Rattle.exchange.specs.Faults.{clean, breaks}
-use Rattle.exchange.specs.LineRules.{lineRules}
+use Rattle.exchange.specs.Faults.{clean, breaks, firstOf}
 use Rattle.exchange.specs.Headers.{Header}
-use Rattle.exchange.specs.Columns.{Sort, bottle, ctd, namesOf, namesRules, kindOfName, kindsOf}
-use Rattle.exchange.specs.Places.{Table, Place, comments, names, units, rows, after, isComment, namesStep, unitsStep, commentsStep, step, Outcome, accepted, refused, run, outcomeOf}
+use Rattle.exchange.specs.Columns.{Sort, bottle, ctd, namesOf, kindOfName, kindsOf}
+use Rattle.exchange.specs.Places.{Table, Place, comments, names, units, rows, after, stopped, isComment, endList, endRules, step, Outcome, accepted, refused, run, outcomeOf}
+use Rattle.exchange.specs.RuleWords.{lineRules, namesRules}
 use Rattle.exchange.specs.Profiles.{missingInRows, keyOf, runCount}
 use Rattle.exchange.specs.Walks.{linesFrom, rowsFrom, StartsAt, lineOf, asFault, sortOf, sortFor, ColumnsRead, TableRead}
 use Rattle.exchange.specs.SurveyWords.{Told, RowsRead, UnitsRead, tableOf, NamesRead, SurveyRead}
 use Rattle.exchange.specs.HeadersWords.{HeaderLines}
 use Rattle.exchange.specs.Records.{headersLine}
 use Rattle.exchange.proofs.AcceptLaws.{accepted-table}
+use Rattle.exchange.proofs.RuleLaws.{names-step, bottle-step, units-step, after-step, last-cut}
 use Rattle.exchange.proofs.RunLaws.{run-stopped, lines-end, lines-cut, run-line, line-clean, line-broken, starts-next}
 
 -- ---- a line that keeps rules 1 to 5
@@ -41,10 +42,11 @@ module _ (control : Bool) (s : List ℕ) (i : ℕ) (r : Line) (e : r ≡ lineOf 
       let d = line-ends in
       record { inside = omega (arith, d .0); room = d .1; feed = rw e (w .3); parts = refl }
 
-  run-on : (l : ℕ) (p : Place) → run l p (linesFrom s i) ≡ run (l + 1) (step l p (lineAt s i)) (linesFrom s (r .end + 1))
-  run-on l p =
+  run-on : (l : ℕ) (p q : Place) → step l p (lineAt s i) ≡ q → run l p (linesFrom s i) ≡ run (l + 1) q (linesFrom s (r .end + 1))
+  run-on l p q f =
       let d = line-ends in
-      run-line l p s i (omega (arith, d .0, d .1)) ∙ ap (λ (j : ℕ). run (l + 1) (step l p (lineAt s i)) (linesFrom s (j + 1))) (sym (d .0))
+      run-line l p s i (omega (arith, d .0, d .1)) ∙ ap (λ (x : Place). run (l + 1) x (linesFrom s (i + length (lineAt s i) + 1))) f
+      ∙ ap (λ (j : ℕ). run (l + 1) q (linesFrom s (j + 1))) (sym (d .0))
 
   pub starts-on : (l : ℕ) → 1 ≤ l → StartsAt s l i → StartsAt s (l + 1) (r .end + 1)
   starts-on l k f =
@@ -54,15 +56,15 @@ module _ (control : Bool) (s : List ℕ) (i : ℕ) (r : Line) (e : r ≡ lineOf 
 -- ---- the lines after END_DATA
 module _ (s : List ℕ) (i : ℕ) (t : Table) (n l : ℕ) where
   pub after-end : length s ≤ i → run l (after t n) (linesFrom s i) ≡ accepted t n
-  unfolding run
+  unfolding run endRules endList firstOf
   after-end h = rw (lines-end s i h)
 
   module _ (r : Line) (e : r ≡ lineOf false s i) where
     pub after-broken : i < length s → (r .number ≡ 0 → ⊥) → run l (after t n) (linesFrom s i) ≡ refused (r .number) l (r .column)
-    after-broken h z = rw e (line-broken l (after t n) s i false h (rw e at z) (λ x m c d. rw d) (λ x. refl))
+    after-broken h z = rw e (line-broken l (after t n) s i false h (rw e at z) (λ x m c d. after-step l t n x ∙ rw d) tt)
 
     pub after-on : r .number ≡ 0 → run l (after t n) (linesFrom s i) ≡ run (l + 1) (after t n) (linesFrom s (r .end + 1))
-    after-on z = run-on false s i r e z l (after t n) ∙ rw (line-rules false s i r e z)
+    after-on z = run-on false s i r e z l (after t n) (after t n) (after-step l t n (lineAt s i) ∙ rw (line-rules false s i r e z))
 
 -- ---- the cells of a line counted byte by byte
 module _ (s : List ℕ) (p : ℕ) (l : p < length s) (n : getD s p 0 ≡ 10 → ⊥) where
@@ -75,27 +77,24 @@ module _ (s : List ℕ) (p : ℕ) (l : p < length s) (n : getD s p 0 ≡ 10 → 
 -- ---- the units line
 module _ (k : Sort) (hs : List Header) (ns : List (List ℕ)) (s : List ℕ) (i l : ℕ) where
   pub units-none : length s ≤ i → run l (units k hs ns) (linesFrom s i) ≡ refused 14 l 1
-  unfolding run
+  unfolding run endRules endList firstOf
   units-none h = rw (lines-end s i h)
 
   module _ (r : Line) (e : r ≡ lineOf true s i) where
     pub units-broken : i < length s → (r .number ≡ 0 → ⊥) → run l (units k hs ns) (linesFrom s i) ≡ refused (r .number) l (r .column)
-    unfolding unitsStep
-    units-broken h z = rw e (line-broken l (units k hs ns) s i true h (rw e at z) (λ x m c d. rw d) (λ x. refl))
+    units-broken h z = rw e (line-broken l (units k hs ns) s i true h (rw e at z) (λ x m c d. units-step l k hs ns x ∙ rw d) tt)
 
     module _ (z : r .number ≡ 0) (n : ℕ) (d : n ≡ length (pieces 44 (lineAt s i))) where
       pub units-other : (n ≡ length ns → ⊥) → run l (units k hs ns) (linesFrom s i) ≡ refused 15 l 1
-      unfolding unitsStep
       units-other f =
           let g : eqb (length (pieces 44 (lineAt s i))) (length ns) ≡ false = ne-eqb _ _ (λ x. f (d ∙ x)) in
-          run-on true s i r e z l (units k hs ns) ∙ rw (line-rules true s i r e z, g) (run-stopped (l + 1) 15 l 1 (linesFrom s (r .end + 1)))
+          run-on true s i r e z l (units k hs ns) (stopped 15 l 1) (units-step l k hs ns (lineAt s i) ∙ rw (line-rules true s i r e z, g)) ∙ (run-stopped (l + 1) 15 l 1 (linesFrom s (r .end + 1)))
 
       pub units-on : n ≡ length ns
           → run l (units k hs ns) (linesFrom s i) ≡ run (l + 1) (rows (record { sort = k; headers = hs; names = ns; line = l }) 0) (linesFrom s (r .end + 1))
-      unfolding unitsStep
       units-on f =
           let g : eqb (length (pieces 44 (lineAt s i))) (length ns) ≡ true = eq-eqb _ _ (sym d ∙ f) in
-          run-on true s i r e z l (units k hs ns) ∙ rw (line-rules true s i r e z, g)
+          run-on true s i r e z l (units k hs ns) _ (units-step l k hs ns (lineAt s i) ∙ rw (line-rules true s i r e z, g))
 
 -- ---- the names line
 fault-broken : (n c : ℕ) → (n ≡ 0 → ⊥) → asFault n c ≡ breaks n c
@@ -108,26 +107,23 @@ kinds-room {k} {x} {c} a z = omega (arith, length-take (c .count) (c .kinds), ap
 
 module _ (k : Sort) (hs : List Header) (s : List ℕ) (i l : ℕ) where
   pub names-none : length s ≤ i → run l (names k hs) (linesFrom s i) ≡ refused 14 l 1
-  unfolding run
+  unfolding run endRules endList firstOf
   names-none h = rw (lines-end s i h)
 
   module _ (r : Line) (e : r ≡ lineOf true s i) where
     pub names-broken : i < length s → (r .number ≡ 0 → ⊥) → run l (names k hs) (linesFrom s i) ≡ refused (r .number) l (r .column)
-    unfolding namesStep
-    names-broken h z = rw e (line-broken l (names k hs) s i true h (rw e at z) (λ x m c d. rw d) (λ x. refl))
+    names-broken h z = rw e (line-broken l (names k hs) s i true h (rw e at z) (λ x m c d. names-step l k hs x ∙ rw d) tt)
 
     module _ (z : r .number ≡ 0) (c : Columns) (x : ColumnsRead k (lineAt s i) c) where
       pub names-refused : (c .number ≡ 0 → ⊥) → run l (names k hs) (linesFrom s i) ≡ refused (c .number) l (c .column)
-      unfolding namesStep
       names-refused f =
           let g : namesRules k (lineAt s i) ≡ breaks (c .number) (c .column) = sym (x .fault) ∙ fault-broken (c .number) (c .column) f in
-          run-on true s i r e z l (names k hs) ∙ rw (line-rules true s i r e z, g) (run-stopped (l + 1) (c .number) l (c .column) (linesFrom s (r .end + 1)))
+          run-on true s i r e z l (names k hs) (stopped (c .number) l (c .column)) (names-step l k hs (lineAt s i) ∙ rw (line-rules true s i r e z, g)) ∙ (run-stopped (l + 1) (c .number) l (c .column) (linesFrom s (r .end + 1)))
 
       pub names-on : c .number ≡ 0 → run l (names k hs) (linesFrom s i) ≡ run (l + 1) (units k hs (namesOf (lineAt s i))) (linesFrom s (r .end + 1))
-      unfolding namesStep
       names-on f =
           let g : namesRules k (lineAt s i) ≡ clean = sym (x .fault) ∙ ap (λ (n : ℕ). asFault n (c .column)) f in
-          run-on true s i r e z l (names k hs) ∙ rw (line-rules true s i r e z, g)
+          run-on true s i r e z l (names k hs) _ (names-step l k hs (lineAt s i) ∙ rw (line-rules true s i r e z, g))
 
 -- ---- after the comments of a bottle file: the names line
 other-line : (s : List ℕ) (i : ℕ) → i < length s → (getD s i 0 ≡ 35 → ⊥) → isComment (lineAt s i) ≡ false
@@ -139,13 +135,12 @@ other-line s i h n = go (eqb (getD s i 0) 10) refl
     go false e = rw (line-in s i h e) (rw (ne-eqb (getD s i 0) 35 n))
 
 last-alike : (l : ℕ) (k : Sort) (hs : List Header) (x : List ℕ) → run l (comments k) (x ∷ []) ≡ run l (names k hs) (x ∷ [])
-unfolding run
+unfolding run endRules endList firstOf
 last-alike l k hs [] = refl
-last-alike l k hs (y ∷ x) = refl
+last-alike l k hs (y ∷ x) = last-cut l (comments k) (y ∷ x) (omega arith) tt ∙ sym (last-cut l (names k hs) (y ∷ x) (omega arith) tt)
 
 comments-names : (s : List ℕ) (i l : ℕ) → (i < length s → getD s i 0 ≡ 35 → ⊥)
     → run l (comments bottle) (linesFrom s i) ≡ run l (names bottle []) (linesFrom s i)
-unfolding commentsStep
 comments-names s i l n = go (ltb i (length s)) (ltb (i + length (lineAt s i)) (length s)) refl refl
   where
     go : (a b : Bool) → ltb i (length s) ≡ a → ltb (i + length (lineAt s i)) (length s) ≡ b
@@ -155,7 +150,9 @@ comments-names s i l n = go (ltb i (length s)) (ltb (i + length (lineAt s i)) (l
     go true true p q =
         let h = ltb-true _ _ q in
         let d = ltb-true _ _ p in
-        run-line l (comments bottle) s i h ∙ rw (other-line s i d (n d)) (sym (run-line l (names bottle []) s i h))
+        run-line l (comments bottle) s i h
+        ∙ ap (λ (p : Place). run (l + 1) p (linesFrom s (i + length (lineAt s i) + 1))) (bottle-step l (lineAt s i) (other-line s i d (n d)))
+        ∙ sym (run-line l (names bottle []) s i h)
 
 -- a file whose comments are passed: by what line 1 says its names line comes next, or its headers
 module _ (s : List ℕ) (i l kind : ℕ) (o : outcomeOf s ≡ run l (comments (sortOf kind)) (linesFrom s i)) where

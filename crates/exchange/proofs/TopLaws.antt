@@ -14,12 +14,13 @@ use Rattle.text.proofs.EqualLaws.{equal-lengths}
 use Rattle.text.proofs.SpaceLaws.{slice-take}
 use Rattle.exchange.specs.declared.lines.Line.{Line}
 use Rattle.exchange.specs.declared.top.First.{First}
-use Rattle.exchange.specs.Faults.{clean, breaks, unless}
-use Rattle.exchange.specs.LineRules.{lineRules}
+use Rattle.exchange.specs.Faults.{clean, breaks, _then_, firstOf, unless}
 use Rattle.exchange.specs.Columns.{Sort, bottle, ctd}
-use Rattle.exchange.specs.Places.{first, comments, stopped, stopAt, isMark, isBottle, isCtd, firstRules, firstStep, isComment, commentsStep, step, refused, run, outcomeOf}
+use Rattle.exchange.specs.Places.{Place, first, comments, stopped, isMark, isBottle, isCtd, firstList, isComment, endList, endRules, stopAt, step, refused, run, outcomeOf}
+use Rattle.exchange.specs.RuleWords.{lineRules}
 use Rattle.exchange.specs.Walks.{linesFrom, StartsAt, lineOf, sortOf, FirstRead}
 use Rattle.exchange.proofs.CellsLaws.{cell-slice}
+use Rattle.exchange.proofs.RuleLaws.{first-step, comment-step}
 use Rattle.exchange.proofs.RunLaws.{piece-take, run-stopped, run-line, line-clean, line-broken, line-broken-here, starts-next}
 
 -- ---- the text before line 1's first comma
@@ -50,18 +51,17 @@ mark-bytes (a ∷ b ∷ c ∷ xs) h = go (eqb a 0xef) (eqb b 0xbb) (eqb c 0xbf)
 
 -- ---- line 1
 pub first-none : (s : List ℕ) → length s ≡ 0 → outcomeOf s ≡ refused 14 1 1
-unfolding outcomeOf run firstPiece laterPieces
+unfolding outcomeOf run endRules endList firstOf firstPiece laterPieces
 first-none [] h = refl
 first-none (x ∷ s) h = absurd (omega arith)
 
 first-breaks : (x : List ℕ) (n c : ℕ) → lineRules true x ≡ breaks n c → step 1 first x ≡ stopped n 1 c
-unfolding firstStep
-first-breaks x n c e = rw e
+first-breaks x n c e = first-step 1 x ∙ rw e
 
 module _ (s : List ℕ) (l : Line) (e : l ≡ lineOf true s 0) where
   pub first-broken : 0 < length s → (l .number ≡ 0 → ⊥) → outcomeOf s ≡ refused (l .number) 1 (l .column)
   unfolding outcomeOf
-  first-broken h z = rw e (line-broken 1 first s 0 true h (rw e at z) first-breaks (λ x. refl))
+  first-broken h z = rw e (line-broken 1 first s 0 true h (rw e at z) first-breaks tt)
 
   module _ (z : l .number ≡ 0) where
     pub first-room : l .end < length s
@@ -74,12 +74,14 @@ module _ (s : List ℕ) (l : Line) (e : l ≡ lineOf true s 0) where
         let d : l .end ≡ length (lineAt s 0) = rw e (omega (arith, w .2)) in
         rw d (piece-take 10 s)
 
-    first-run : outcomeOf s ≡ run 2 (firstStep 1 (lineAt s 0)) (linesFrom s (l .end + 1))
+    first-run : outcomeOf s ≡ run 2 (stopAt 1 (firstOf (firstList (lineAt s 0))) (comments (cond (isBottle (lineAt s 0)) bottle ctd))) (linesFrom s (l .end + 1))
     unfolding outcomeOf
     first-run =
         let w = line-clean true s 0 (rw e at z) in
         let d : 0 + length (lineAt s 0) ≡ l .end = rw e (sym (w .2)) in
-        run-line 1 first s 0 (w .1) ∙ rw d
+        let f : step 1 first (lineAt s 0) ≡ stopAt 1 (firstOf (firstList (lineAt s 0))) (comments (cond (isBottle (lineAt s 0)) bottle ctd))
+        = first-step 1 (lineAt s 0) ∙ rw (w .0) in
+        run-line 1 first s 0 (w .1) ∙ ap (λ (p : Place). run 2 p (linesFrom s (0 + length (lineAt s 0) + 1))) f ∙ rw d
 
     pub first-counted : StartsAt s 2 (l .end + 1)
     first-counted =
@@ -87,22 +89,19 @@ module _ (s : List ℕ) (l : Line) (e : l ≡ lineOf true s 0) where
         let d : 0 + length (lineAt s 0) ≡ l .end = rw e (sym (w .2)) in
         rw d at (starts-next s 1 0 (omega arith) refl (w .1))
 
-    first-rules : lineRules true (lineAt s 0) ≡ clean
-    first-rules = line-clean true s 0 (rw e at z) .0
-
     pub first-marked : isMark (take (l .end) s) ≡ true → outcomeOf s ≡ refused 6 1 1
-    unfolding firstStep firstRules
+    unfolding firstList firstOf
     first-marked m =
         let a : isMark (lineAt s 0) ≡ true = rw first-text at m in
-        first-run ∙ rw (first-rules, a) (run-stopped 2 6 1 1 (linesFrom s (l .end + 1)))
+        first-run ∙ rw a (run-stopped 2 6 1 1 (linesFrom s (l .end + 1)))
 
     module _ (m : isMark (take (l .end) s) ≡ false) (kind : ℕ) (b : kind ≡ cond (isBottle (lineAt s 0)) 1 (cond (isCtd (lineAt s 0)) 2 0)) where
       pub first-neither : kind ≡ 0 → outcomeOf s ≡ refused 7 1 1
-      unfolding firstStep firstRules
+      unfolding firstList firstOf
       first-neither q =
           let a : isMark (lineAt s 0) ≡ false = rw first-text at m in
           let n = go (isBottle (lineAt s 0)) (isCtd (lineAt s 0)) (sym b ∙ q) in
-          first-run ∙ rw (first-rules, a, n .0, n .1) (run-stopped 2 7 1 1 (linesFrom s (l .end + 1)))
+          first-run ∙ rw (a, n .0, n .1) (run-stopped 2 7 1 1 (linesFrom s (l .end + 1)))
         where
           go : (a b : Bool) → _≡_ {A = ℕ} (cond a 1 (cond b 2 0)) 0 → (a ≡ false) × (b ≡ false)
           go true b h = absurd (omega arith)
@@ -110,13 +109,13 @@ module _ (s : List ℕ) (l : Line) (e : l ≡ lineOf true s 0) where
           go false false h = (refl, refl)
 
       pub first-on : (kind ≡ 0 → ⊥) → outcomeOf s ≡ run 2 (comments (sortOf kind)) (linesFrom s (l .end + 1))
-      unfolding firstStep firstRules
+      unfolding firstList firstOf
       first-on q =
           let a : isMark (lineAt s 0) ≡ false = rw first-text at m in
-          first-run ∙ rw (first-rules, a) (go (isBottle (lineAt s 0)) (isCtd (lineAt s 0)) b)
+          first-run ∙ rw a (go (isBottle (lineAt s 0)) (isCtd (lineAt s 0)) b)
         where
           go : (a b : Bool) → kind ≡ cond a 1 (cond b 2 0)
-              → run 2 (stopAt 1 (unless (a || b) 7 1) (comments (cond a bottle ctd))) (linesFrom s (l .end + 1)) ≡ run 2 (comments (sortOf kind)) (linesFrom s (l .end + 1))
+              → run 2 (stopAt 1 (unless (a || b) 7 1 then clean) (comments (cond a bottle ctd))) (linesFrom s (l .end + 1)) ≡ run 2 (comments (sortOf kind)) (linesFrom s (l .end + 1))
           go true b h = rw h
           go false true h = rw h
           go false false h = absurd (q h)
@@ -128,11 +127,10 @@ comment-line s i h e = rw (line-in s i h (ne-eqb (getD s i 0) 10 (λ z. omega ar
 
 module _ (s : List ℕ) (i : ℕ) (h : i < length s) (b : getD s i 0 ≡ 35) (l : Line) (e : l ≡ lineOf false s i) where
   pub comment-broken : (k : Sort) (n : ℕ) → (l .number ≡ 0 → ⊥) → run n (comments k) (linesFrom s i) ≡ refused (l .number) n (l .column)
-  unfolding commentsStep
   comment-broken k n z =
       rw e
       (line-broken-here false s i n (comments k) h (rw e at z)
-      (λ (m c : ℕ) (d : lineRules false (lineAt s i) ≡ breaks m c). rw (comment-line s i h b, d)) (λ x. refl))
+      (λ (m c : ℕ) (d : lineRules false (lineAt s i) ≡ breaks m c). comment-step n k (lineAt s i) (comment-line s i h b) ∙ rw d) tt)
 
   module _ (z : l .number ≡ 0) where
     pub comment-room : (i < l .end) × (l .end < length s)
@@ -148,11 +146,11 @@ module _ (s : List ℕ) (i : ℕ) (h : i < length s) (b : getD s i 0 ≡ 35) (l 
         rw d at (starts-next s n i o y (w .1))
 
     pub comment-on : (k : Sort) (n : ℕ) → run n (comments k) (linesFrom s i) ≡ run (n + 1) (comments k) (linesFrom s (l .end + 1))
-    unfolding commentsStep
     comment-on k n =
         let w = line-clean false s i (rw e at z) in
         let d : i + length (lineAt s i) ≡ l .end = rw e (sym (w .2)) in
-        run-line n (comments k) s i (w .1) ∙ rw (comment-line s i h b, w .0, d)
+        let f : step n (comments k) (lineAt s i) ≡ comments k = comment-step n k (lineAt s i) (comment-line s i h b) ∙ rw (w .0) in
+        run-line n (comments k) s i (w .1) ∙ ap (λ (p : Place). run (n + 1) p (linesFrom s (i + length (lineAt s i) + 1))) f ∙ rw d
 
 -- ---- what the calls promise
 pub first-stopped : (s : List ℕ) (r : First) (n c : ℕ) → r .number ≡ n → r .column ≡ c → (n ≡ 0 → ⊥) → outcomeOf s ≡ refused n 1 c → FirstRead s r

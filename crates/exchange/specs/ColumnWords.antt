@@ -7,8 +7,9 @@ use lib.ListN.{length, getD, take}
 use Rattle.text.specs.Cells.{lineAt, pieces}
 use Rattle.exchange.specs.declared.columns.Cells.{Cells}
 use Rattle.exchange.specs.declared.columns.Columns.{Columns}
-use Rattle.exchange.specs.Columns.{Column, isFlag, namesOf, flagFaults, columnsOf, kindsOf}
+use Rattle.exchange.specs.Columns.{Column, isFlag, namesOf, columnsOf, kindsOf}
 use Rattle.exchange.specs.Faults.{placeIn}
+use Rattle.exchange.specs.RuleWords.{flagFaults}
 use Rattle.exchange.specs.Walks.{namesAt, asFault}
 
 -- where piece k starts, the first starting at c

@@ -10,7 +10,7 @@ use Rattle.text.specs.Cells.{pieces}
 use Rattle.text.specs.Spaces.{trim}
 use Rattle.text.specs.Names.{isName, parameterLength, beginsCtd}
 use Rattle.text.specs.Catalogue.{names, kinds, kindIn}
-use Rattle.exchange.specs.Faults.{Fault, clean, breaks, _then_, unless, member, hasAll}
+use Rattle.exchange.specs.Faults.{Fault, unless, member, hasAll}
 use Rattle.exchange.specs.Headers.{stationNames}
 
 -- a bottle or a CTD file
@@ -18,13 +18,13 @@ pub data Sort : Type 0 where
   bottle ctd : Sort
 
 -- the cells from the one at column c, after the earlier names: 11, 10, 9
-unfoldable pub nameFaults : ℕ → List (List ℕ) → List (List ℕ) → Fault
-nameFaults c earlier [] = clean
-nameFaults c earlier (t ∷ ts) =
+unfoldable pub nameList : ℕ → List (List ℕ) → List (List ℕ) → List Fault
+nameList c earlier [] = []
+nameList c earlier (t ∷ ts) =
     unless (ltb (length earlier) 256) 11 c
-    then unless (isName (trim t)) 10 c
-    then unless (not (member (trim t) earlier)) 9 c
-    then nameFaults (c + length t + 1) (earlier ++ trim t ∷ []) ts
+    ∷ unless (isName (trim t)) 10 c
+    ∷ unless (not (member (trim t) earlier)) 9 c
+    ∷ nameList (c + length t + 1) (earlier ++ trim t ∷ []) ts
 
 -- a flag column's name, and its parameter's
 abbrev pub isFlag : List ℕ → Bool
@@ -38,9 +38,9 @@ unfoldable pub hasParameter : List (List ℕ) → List ℕ → Bool
 hasParameter ns n = not (isFlag (parameterOf n)) && member (parameterOf n) ns
 
 -- 12 from the left, among the names ns
-unfoldable pub flagFaults : ℕ → List (List ℕ) → List (List ℕ) → Fault
-flagFaults c ns [] = clean
-flagFaults c ns (t ∷ ts) = unless (not (isFlag (trim t)) || hasParameter ns (trim t)) 12 c then flagFaults (c + length t + 1) ns ts
+unfoldable pub flagList : ℕ → List (List ℕ) → List (List ℕ) → List Fault
+flagList c ns [] = []
+flagList c ns (t ∷ ts) = unless (not (isFlag (trim t)) || hasParameter ns (trim t)) 12 c ∷ flagList (c + length t + 1) ns ts
 
 -- 13: the required names of the line
 abbrev pub requiredNames : Sort → List (List ℕ)
@@ -50,11 +50,8 @@ requiredNames ctd = bytes "CTDPRS" ∷ []
 abbrev pub namesOf : List ℕ → List (List ℕ)
 namesOf x = map trim (pieces 44 x)
 
-unfoldable pub namesRules : Sort → List ℕ → Fault
-namesRules k x =
-    nameFaults 1 [] (pieces 44 x)
-    then flagFaults 1 (namesOf x) (pieces 44 x)
-    then unless (hasAll (requiredNames k) (namesOf x)) 13 1
+unfoldable pub namesList : Sort → List ℕ → List Fault
+namesList k x = nameList 1 [] (pieces 44 x) ++ flagList 1 (namesOf x) (pieces 44 x) ++ unless (hasAll (requiredNames k) (namesOf x)) 13 1 ∷ []
 
 -- the record of a column: its kind (text's numbers), and the place of its flag column from 1, 0 where it has none
 pub record Column : Type 0 where

@@ -14,6 +14,11 @@ abbrev pub _then_ : Fault → Fault → Fault
 clean then g = g
 (breaks n c) then g = breaks n c
 
+-- of some rules in their order, the first broken one
+unfoldable pub firstOf : List Fault → Fault
+firstOf [] = clean
+firstOf (r ∷ rs) = r then firstOf rs
+
 -- broken by n, shown at column c, unless b
 abbrev pub unless : Bool → ℕ → ℕ → Fault
 unless b n c = cond b clean (breaks n c)

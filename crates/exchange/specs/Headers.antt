@@ -1,6 +1,6 @@
 -- Document 01, "Lines", header lines of a CTD file: NAME = value, split at the first =, spaces round both parts dropped. The first is NUMBER_HEADERS
--- with n from 1 to 64 in one or two digits (H). On one line: 8, 9, then 17, 16, 18 of the value.
-use Prim.Native.Nat.{ℕ, _+_}
+-- with n from 1 to 64 in one or two digits (H). On one line: 8, 9, then 17, 16, 18 of the value; after the last, 13.
+use Prim.Native.Nat.{ℕ, zero, suc, _+_}
 use Prim.Native.String.{String}
 use mathlib.Core.List.{List, [], _∷_, map}
 use mathlib.Core.Bool.{Bool, true, false, cond, not, _&&_}
@@ -13,7 +13,7 @@ use Rattle.text.specs.Names.{isName}
 use Rattle.text.specs.Decimals.{Verdict, blank, wrong, outOfRange, good}
 use Rattle.text.specs.Judge.{kindOf, judge, wholeOf, unlessBlank}
 use Rattle.text.specs.Catalogue.{names, kinds, kindIn}
-use Rattle.exchange.specs.Faults.{Fault, _then_, unless, kindFault, member}
+use Rattle.exchange.specs.Faults.{Fault, unless, kindFault, member, hasAll}
 
 -- what stands before the first =, and after it
 abbrev pub rawName : List ℕ → List ℕ
@@ -50,20 +50,26 @@ countIn (good m v d) = cond (leb v 64) v 0
 unfoldable pub headersSaid : List ℕ → ℕ
 headersSaid x = cond (equal (nameOf x) (bytes "NUMBER_HEADERS")) (countIn (unlessBlank (wholeOf 2) (trim (valueOf x)))) 0
 
-unfoldable pub firstHeaderRules : List ℕ → Fault
-firstHeaderRules x = nameRule x then unless (ltb 0 (headersSaid x)) 8 1
+unfoldable pub firstHeaderList : List ℕ → List Fault
+firstHeaderList x = nameRule x ∷ unless (ltb 0 (headersSaid x)) 8 1 ∷ []
 
 -- only the station names are judged in headers: a measured name is free there
 unfoldable pub headerKind : List ℕ → ℕ
 headerKind n = cond (eqb (kindIn names kinds n) 0) 11 (kindIn names kinds n)
 
 -- a later header, after those of the given names; a value is shown just after its =
-unfoldable pub headerRules : List (List ℕ) → List ℕ → Fault
-headerRules earlier x =
+unfoldable pub headerList : List (List ℕ) → List ℕ → List Fault
+headerList earlier x =
     nameRule x
-    then unless (not (member (nameOf x) earlier)) 9 1
-    then kindFault (judge (kindOf (headerKind (nameOf x))) (valueOf x)) (length (rawName x) + 2)
+    ∷ unless (not (member (nameOf x) earlier)) 9 1
+    ∷ kindFault (judge (kindOf (headerKind (nameOf x))) (valueOf x)) (length (rawName x) + 2)
+    ∷ []
 
 -- 13 (002): the names that a bottle file has as columns and a CTD file as headers
 abbrev pub stationNames : List (List ℕ)
 stationNames = map bytes ("EXPOCODE" ∷ "STNNBR" ∷ "CASTNO" ∷ "DATE" ∷ "LATITUDE" ∷ "LONGITUDE" ∷ [])
+
+-- 13 belongs to the last header, where none is due after it
+unfoldable pub lastHeader : ℕ → List Header → List Fault
+lastHeader zero hs = unless (hasAll stationNames (namesIn hs)) 13 1 ∷ []
+lastHeader (suc due) hs = []

@@ -8,7 +8,8 @@ use Rattle.text.specs.Cells.{lineAt, pieces}
 use Rattle.exchange.specs.declared.headers.Header.{Header}
 use Rattle.exchange.specs.declared.headers.Headers.{Headers}
 use Rattle.exchange.specs.Faults.{Fault, _then_}
-use Rattle.exchange.specs.Headers.{Header as FileHeader, headerOf, rawName, nameRule, headersSaid, headerRules}
+use Rattle.exchange.specs.Headers.{Header as FileHeader, headerOf, rawName, nameRule, headersSaid}
+use Rattle.exchange.specs.RuleWords.{headerRules}
 use Rattle.exchange.specs.Grid.{starts}
 use Rattle.exchange.specs.Walks.{StartsAt, lineFault, asFault, headersAt}
 

@@ -9,6 +9,7 @@ pub mod Profiles
 pub mod Answers
 pub mod Located
 pub mod Records
+pub mod RuleWords
 pub mod Walks
 pub mod LineWords
 pub mod NameWords

@@ -1,14 +1,14 @@
 -- Document 01, "Lines" and rules 1 to 5: a line is at most 8,192 bytes (H), has its line feed, is well-formed UTF-8, has no byte 0D and,
 -- where that is asked, no byte below 20 and no 7F.
 use Prim.Native.Nat.{ℕ, _+_}
-use mathlib.Core.List.{List}
+use mathlib.Core.List.{List, [], _∷_}
 use mathlib.Core.Bool.{Bool, cond}
 use lib.ListN.{length}
 use lib.Dec.{leb}
 use Rattle.text.specs.declared.Found.{Found}
 use Rattle.text.specs.declared.Found.the-variants.{At, Nowhere}
 use Rattle.text.specs.Lines.{illFormed, returnAt, controlAt}
-use Rattle.exchange.specs.Faults.{Fault, clean, breaks, _then_, unless}
+use Rattle.exchange.specs.Faults.{Fault, clean, breaks, unless}
 
 -- the column of a byte that is found is counted from 1
 abbrev pub foundFault : ℕ → Found → Fault
@@ -19,10 +19,12 @@ abbrev pub tooLong : List ℕ → Fault
 tooLong x = unless (leb (length x) 8192) 1 8193
 
 -- a line that has its line feed
-unfoldable pub lineRules : Bool → List ℕ → Fault
-lineRules control x =
-    tooLong x then foundFault 3 (illFormed x) then foundFault 4 (returnAt x) then cond control (foundFault 5 (controlAt x)) clean
+unfoldable pub byteList : Bool → List ℕ → List Fault
+byteList control x = foundFault 3 (illFormed x) ∷ foundFault 4 (returnAt x) ∷ cond control (foundFault 5 (controlAt x)) clean ∷ []
+
+unfoldable pub lineList : Bool → List ℕ → List Fault
+lineList control x = tooLong x ∷ byteList control x
 
 -- the last line, where it has none: 1 or 2, one past its end
-unfoldable pub unended : List ℕ → Fault
-unended x = tooLong x then breaks 2 (length x + 1)
+unfoldable pub cutList : List ℕ → List Fault
+cutList x = tooLong x ∷ breaks 2 (length x + 1) ∷ []

@@ -2,14 +2,11 @@
 use Prim.Native.Nat.{ℕ, _+_, _≤_}
 use mathlib.Core.Path.{_≡_}
 use mathlib.Core.List.{List}
-use mathlib.Core.Bool.{Bool, cond, not, _||_}
+use mathlib.Core.Bool.{Bool, not, _||_}
 use lib.ListN.{length, getD}
 use lib.Dec.{ltb}
 use Rattle.text.specs.Cells.{lineAt}
-use Rattle.text.specs.Lines.{illFormed, returnAt, controlAt}
 use Rattle.text.specs.Scans.{Scan}
-use Rattle.exchange.specs.Faults.{Fault, clean, _then_}
-use Rattle.exchange.specs.LineRules.{foundFault}
 
 -- bytes 20 to 7E
 abbrev pub isPlain : ℕ → Bool
@@ -20,7 +17,3 @@ pub record Plain (s : List ℕ) (i limit r : ℕ) : Type 0 where
   pub low : i ≤ r
   pub high : r ≤ limit
   pub over : Scan isPlain s i r
-
--- rules 3, 4 and, where it is asked, 5
-unfoldable pub byteRules : Bool → List ℕ → Fault
-byteRules control x = foundFault 3 (illFormed x) then foundFault 4 (returnAt x) then cond control (foundFault 5 (controlAt x)) clean

@@ -9,7 +9,7 @@ use Rattle.text.specs.Cells.{lineAt}
 use Rattle.text.specs.Scans.{Stop}
 use Rattle.exchange.specs.declared.profiles.Run.{Run}
 use Rattle.exchange.specs.Faults.{clean}
-use Rattle.exchange.specs.Rows.{rowRules}
+use Rattle.exchange.specs.RuleWords.{rowRules}
 use Rattle.exchange.specs.Profiles.{keyOf, labels, rowsOf}
 use Rattle.exchange.specs.Walks.{rowsFrom}
 use Rattle.exchange.specs.RowsWords.{cellsOf}

@@ -12,8 +12,8 @@ use Rattle.text.specs.Rows.{noKeys}
 use Rattle.exchange.specs.declared.rows.Row.{Row}
 use Rattle.exchange.specs.declared.rows.Data.{Data}
 use Rattle.exchange.specs.Columns.{kindsOf}
-use Rattle.exchange.specs.Rows.{rowRules}
 use Rattle.exchange.specs.Places.{Table, rows, after, refused, run}
+use Rattle.exchange.specs.RuleWords.{rowRules}
 use Rattle.exchange.specs.Profiles.{missingInRow, Key, keyOf, sameKey}
 use Rattle.exchange.specs.Walks.{linesFrom, asFault, textIn}
 

@@ -15,10 +15,10 @@ use Rattle.exchange.specs.declared.columns.Columns.{Columns}
 use Rattle.exchange.specs.declared.rows.Data.{Data}
 use Rattle.exchange.specs.declared.survey.Survey.{Survey}
 use Rattle.exchange.specs.Faults.{Fault, clean, breaks}
-use Rattle.exchange.specs.LineRules.{lineRules, unended}
 use Rattle.exchange.specs.Headers.{Header}
-use Rattle.exchange.specs.Columns.{Sort, bottle, ctd, Column, namesOf, namesRules, columnsOf, kindsOf}
+use Rattle.exchange.specs.Columns.{Sort, bottle, ctd, Column, namesOf, columnsOf, kindsOf}
 use Rattle.exchange.specs.Places.{Table, comments, names, rows, after, Outcome, accepted, refused, run, outcomeOf}
+use Rattle.exchange.specs.RuleWords.{lineRules, unended, namesRules}
 use Rattle.exchange.specs.Profiles.{missingInRows, keyOf, Key, runCount}
 
 -- the lines from place i on

@@ -4,10 +4,11 @@ ghost use mathlib.Core.Bool.{false};
 ghost use Prim.Native.Nat.{_+_, min, _≤_, _<_};
 ghost use lib.ListN.{length};
 ghost use Rattle.text.specs.Scans.{Scan};
-ghost use Rattle.exchange.specs.LineWords.{isPlain, Plain, byteRules};
+ghost use Rattle.exchange.specs.LineWords.{isPlain, Plain};
 ghost use Rattle.exchange.specs.Walks.{lineFor, lineOf};
 use crate::places::line_end;
 use text::Found;
+ghost use Rattle.exchange.specs.RuleWords.{byteRules};
 
 // The most bytes of a line.
 pub const MOST_BYTES: usize = 8192;

@@ -18,10 +18,11 @@ use Rattle.text.specs.Spaces.{trim}
 use Rattle.text.proofs.DecimalLaws.{Small}
 use Rattle.text.proofs.JudgeLaws.{judge-small}
 use Rattle.exchange.specs.declared.Flagged.{Flagged}
-use Rattle.exchange.specs.Faults.{Fault, clean, breaks, _then_, unless, kindFault}
+use Rattle.exchange.specs.Faults.{Fault, clean, breaks, _then_, unless, kindFault, firstOf}
 use Rattle.exchange.specs.Columns.{kindOfName, kindsOf}
-use Rattle.exchange.specs.Rows.{cellFaults, rowRules}
+use Rattle.exchange.specs.Rows.{cellList, rowList}
 use Rattle.exchange.specs.Places.{Table, accepted, outcomeOf}
+use Rattle.exchange.specs.RuleWords.{cellFaults, rowRules}
 use Rattle.exchange.specs.Profiles.{grid}
 use Rattle.exchange.specs.Answers.{found, missed, askedBy, askedOf, kindAt, rowsIn, rowCells, cellText, cellBy, cellOf, refusalBy, readingBy, readingFor, flaggedBy, flaggedOf}
 use Rattle.laws.specs.Promises.{IsThere, columnKind, cellVerdict, millionthsOf, IsFlag, Refuses, GivesFlag, Answers, AskedExactly}
@@ -43,7 +44,7 @@ fault-good outOfRange c g e = let z : _≡_ {A = ℕ} 0 1 = cc in absurd (omega 
 fault-good (good m v d) c g e = (record { minus = m; size = v; decimals = d; is = refl }, e)
 
 cells-good : (c : ℕ) (ks : List ℕ) (ts : List (List ℕ)) → cellFaults c ks ts ≡ clean → (k : ℕ) → k < length ks → k < length ts → Good (judge (kindOf (getD ks k 0)) (getD ts k []))
-unfolding cellFaults
+unfolding cellFaults cellList firstOf
 cells-good c [] ts e k h l = absurd (not-suc-le-zero h)
 cells-good c (x ∷ ks) [] e k h l = absurd (not-suc-le-zero l)
 cells-good c (x ∷ ks) (t ∷ ts) e zero h l = fault-good (judge (kindOf x) t) c (cellFaults (c + length t + 1) ks ts) e .0
@@ -51,7 +52,7 @@ cells-good c (x ∷ ks) (t ∷ ts) e (suc k) h l =
     cells-good (c + length t + 1) ks ts (fault-good (judge (kindOf x) t) c (cellFaults (c + length t + 1) ks ts) e .1) k (le-of-suc-le-suc h) (le-of-suc-le-suc l)
 
 rules-cells : (ks : List ℕ) (ts : List (List ℕ)) → rowRules ks ts ≡ clean → cellFaults 1 ks ts ≡ clean
-unfolding rowRules
+unfolding rowRules cellFaults rowList firstOf
 rules-cells ks ts e = go (eqb (length ts) (length ks)) (cellFaults 1 ks ts) e
   where
     go : (z : Bool) (g : Fault) → (unless z 15 1 then g) ≡ clean → g ≡ clean

@@ -9,30 +9,21 @@ use lib.ListN.{length, getD, take}
 use lib.Dec.{leb, ltb}
 use borrow.Author.Tests.{lt-ltb, le-ltb, ltb-true, ltb-false}
 use Rattle.text.specs.Cells.{pieces}
-use Rattle.exchange.specs.Faults.{Fault, clean, breaks, _then_, unless}
-use Rattle.exchange.specs.LineRules.{unended}
+use Rattle.exchange.specs.Faults.{Fault, clean, breaks, _then_, firstOf, unless}
+use Rattle.exchange.specs.LineRules.{cutList}
 use Rattle.exchange.specs.Headers.{Header, headerOf, headersSaid}
 use Rattle.exchange.specs.Columns.{Sort, bottle, ctd}
 use Rattle.exchange.specs.Rows.{isEndData}
-use Rattle.exchange.specs.Places.{Table, Place, first, comments, headers, names, units, rows, after, stopped, stopAt, isComment, Outcome, accepted, refused, ending, faultOutcome, cut, run, outcomeOf}
+use Rattle.exchange.specs.Places.{Table, Place, first, comments, headers, names, units, rows, after, stopped, isComment, rulesAt, endList, endRules, dueHeaders, afterTop, nextPlace, stopAt, Outcome, accepted, refused, outcomeAt, last, run, outcomeOf}
 use Rattle.exchange.specs.Answers.{checkedBy, checkedOf}
-use Rattle.laws.specs.RuleOrder.{rulesAt, endRules, dueHeaders, afterTop, nextPlace, walk, linesIn, placeBefore, rulesOf}
+use Rattle.laws.specs.RuleOrder.{walk, linesIn, placeBefore, rulesOf}
 use Rattle.laws.specs.Promises.{Kept, Broken, FirstBroken, AllKept, ChecksFirst}
+use Rattle.exchange.proofs.RuleLaws.{Going, cut-rules}
 use Rattle.exchange.proofs.RunLaws.{run-stopped}
-use Rattle.laws.proofs.RuleOrderLaws.{firstOf, first-kept, kept-first, first-broken, broken-first, step-is}
+use Rattle.laws.proofs.RuleOrderLaws.{first-kept, kept-first, first-broken, broken-first}
 use Rattle.laws.proofs.RuleNumberLaws.{Numbered, number-range, number-of}
 
--- ---- places that are no refusal
-abbrev Going : Place → Type 0
-Going first = Unit {0}
-Going (comments s) = Unit {0}
-Going (headers due hs) = Unit {0}
-Going (names s hs) = Unit {0}
-Going (units s hs ns) = Unit {0}
-Going (rows t n) = Unit {0}
-Going (after t n) = Unit {0}
-Going (stopped a b c) = ⊥
-
+-- ---- a place that is no refusal leads to another
 due-going : (due : ℕ) (hs : List Header) → Going (dueHeaders due hs)
 due-going zero hs = tt
 due-going (suc due) hs = tt
@@ -113,8 +104,8 @@ module _ (l : ℕ) (p : Place) (x : List ℕ) where
   unfolding rulesFrom
   last-stops n c e = record { at = 0; line = sym (add-zero l); inside = omega arith; earlier = λ j h. absurd (omega arith); here = e }
 
-ran-end : (l : ℕ) (p : Place) → Going p → Ran l p ([] ∷ []) (ending l p)
-unfolding endRules rulesFrom firstOf walk
+ran-end : (l : ℕ) (p : Place) → Going p → Ran l p ([] ∷ []) (last l p [])
+unfolding endRules endList rulesFrom firstOf walk
 ran-end l first g = last-stops l first [] 14 1 refl
 ran-end l (comments s) g = last-stops l (comments s) [] 14 1 refl
 ran-end l (headers due hs) g = last-stops l (headers due hs) [] 14 1 refl
@@ -128,23 +119,16 @@ ran-end l (after t n) g = record { kept = λ j h. one j h; place = refl }
     one (suc j) h = absurd (omega arith)
 ran-end l (stopped a b c) g = absurd g
 
-unended-ran : (l : ℕ) (p : Place) (x : ℕ) (xs : List ℕ) → Ran l p ((x ∷ xs) ∷ []) (faultOutcome l (unended (x ∷ xs)))
-unfolding endRules firstOf unended
-unended-ran l p x xs = go (leb (length (x ∷ xs)) 8192) refl
+ran-cut : (l : ℕ) (p : Place) (x : ℕ) (xs : List ℕ) → Going p → Ran l p ((x ∷ xs) ∷ []) (last l p (x ∷ xs))
+unfolding cutList firstOf
+ran-cut l p x xs g = subst (λ (rs : List Fault). Ran l p ((x ∷ xs) ∷ []) (outcomeAt (stopAt l (firstOf rs) p))) (sym e) (go (leb (length (x ∷ xs)) 8192) refl)
   where
-    go : (b : Bool) → leb (length (x ∷ xs)) 8192 ≡ b → Ran l p ((x ∷ xs) ∷ []) (faultOutcome l (unless b 1 8193 then breaks 2 (length (x ∷ xs) + 1)))
-    go true q = last-stops l p (x ∷ xs) 2 (length (x ∷ xs) + 1) (rw q)
-    go false q = last-stops l p (x ∷ xs) 1 8193 (rw q)
+    e : endRules p (x ∷ xs) ≡ cutList (x ∷ xs)
+    e = cut-rules p x xs g
 
-ran-cut : (l : ℕ) (p : Place) (x : ℕ) (xs : List ℕ) → Going p → Ran l p ((x ∷ xs) ∷ []) (cut l p (x ∷ xs))
-ran-cut l first x xs g = unended-ran l first x xs
-ran-cut l (comments s) x xs g = unended-ran l (comments s) x xs
-ran-cut l (headers due hs) x xs g = unended-ran l (headers due hs) x xs
-ran-cut l (names s hs) x xs g = unended-ran l (names s hs) x xs
-ran-cut l (units s hs ns) x xs g = unended-ran l (units s hs ns) x xs
-ran-cut l (rows t n) x xs g = unended-ran l (rows t n) x xs
-ran-cut l (after t n) x xs g = unended-ran l (after t n) x xs
-ran-cut l (stopped a b c) x xs g = absurd g
+    go : (b : Bool) → leb (length (x ∷ xs)) 8192 ≡ b → Ran l p ((x ∷ xs) ∷ []) (outcomeAt (stopAt l (unless b 1 8193 then breaks 2 (length (x ∷ xs) + 1)) p))
+    go true q = last-stops l p (x ∷ xs) 2 (length (x ∷ xs) + 1) (ap firstOf e ∙ rw q)
+    go false q = last-stops l p (x ∷ xs) 1 8193 (ap firstOf e ∙ rw q)
 
 -- a line that breaks a rule, or keeps them
 line-stops : (l : ℕ) (p : Place) (x y : List ℕ) (ys : List (List ℕ)) (n c : ℕ) → firstOf (rulesAt p x) ≡ breaks n c → Stops l p (x ∷ (y ∷ ys)) n l c
@@ -175,8 +159,7 @@ ran [] l p h g = absurd (omega arith)
 ran ([] ∷ []) l p h g = ran-end l p g
 ran ((x ∷ xs) ∷ []) l p h g = ran-cut l p x xs g
 ran (x ∷ (y ∷ ys)) l p h g =
-    subst (λ (q : Place). Ran l p (x ∷ (y ∷ ys)) (run (l + 1) q (y ∷ ys))) (sym (step-is l p x))
-    (go (firstOf (rulesAt p x)) refl (ran (y ∷ ys) (l + 1) (nextPlace l p x) (omega arith) (next-going l p x g)))
+    go (firstOf (rulesAt p x)) refl (ran (y ∷ ys) (l + 1) (nextPlace l p x) (omega arith) (next-going l p x g))
   where
     go : (r : Fault) → firstOf (rulesAt p x) ≡ r → Ran (l + 1) (nextPlace l p x) (y ∷ ys) (run (l + 1) (nextPlace l p x) (y ∷ ys))
         → Ran l p (x ∷ (y ∷ ys)) (run (l + 1) (stopAt l r (nextPlace l p x)) (y ∷ ys))

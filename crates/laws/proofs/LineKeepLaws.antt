@@ -15,8 +15,9 @@ use Rattle.text.specs.Bytes.{every}
 use Rattle.text.specs.Lines.{Range, within, takes, alternatives, characterIn, character, illFrom, illFormed, firstFrom, isReturn, returnAt, isControl, controlAt}
 use Rattle.text.proofs.CharacterLaws.{character-ascii}
 use Rattle.text.proofs.LineLaws.{isPlain, plain-well-formed, plain-no-return, plain-no-control}
-use Rattle.exchange.specs.Faults.{clean, _then_}
-use Rattle.exchange.specs.LineRules.{foundFault, tooLong, lineRules}
+use Rattle.exchange.specs.Faults.{clean, _then_, firstOf}
+use Rattle.exchange.specs.LineRules.{foundFault, tooLong, lineList, byteList}
+use Rattle.exchange.specs.RuleWords.{lineRules}
 use Rattle.laws.specs.Writes.{join, joinLater}
 use Rattle.exchange.proofs.HeaderLaws.{then-clean}
 use Rattle.laws.proofs.JoinLaws.{join-length-set}
@@ -147,16 +148,17 @@ clean-found n Nowhere e = refl
 
 pub line-kept : (ts : List (List ℕ)) (i : ℕ) (u : List ℕ) → i < length ts → length u ≡ length (getD ts i []) → every isPlain u ≡ true
     → lineRules true (join 44 ts) ≡ clean → lineRules true (join 44 (set ts i u)) ≡ clean
-unfolding lineRules
+unfolding lineRules lineList byteList firstOf
 line-kept ts i u h e p c =
     let l = join 44 ts in
-    let w = then-clean (tooLong l) (foundFault 3 (illFormed l) then foundFault 4 (returnAt l) then foundFault 5 (controlAt l)) c in
-    let v = then-clean (foundFault 3 (illFormed l)) (foundFault 4 (returnAt l) then foundFault 5 (controlAt l)) (w .1) in
-    let k = then-clean (foundFault 4 (returnAt l)) (foundFault 5 (controlAt l)) (v .1) in
+    let w = then-clean (tooLong l) (foundFault 3 (illFormed l) then foundFault 4 (returnAt l) then foundFault 5 (controlAt l) then clean) c in
+    let v = then-clean (foundFault 3 (illFormed l)) (foundFault 4 (returnAt l) then foundFault 5 (controlAt l) then clean) (w .1) in
+    let k = then-clean (foundFault 4 (returnAt l)) (foundFault 5 (controlAt l) then clean) (v .1) in
+    let j = then-clean (foundFault 5 (controlAt l)) clean (k .1) in
     rw (
       join-length-set 44 ts i u h e,
       w .0,
       clean-found 3 (illFormed (join 44 (set ts i u))) (join-kept (λ x. nowhere (illFormed x)) well-cut ts i u (found-clean 3 (illFormed l) (v .0)) (ap nowhere (plain-well-formed u p))),
       clean-found 4 (returnAt (join 44 (set ts i u))) (join-kept (λ x. nowhere (returnAt x)) return-cut ts i u (found-clean 4 (returnAt l) (k .0)) (ap nowhere (plain-no-return u p))),
+      clean-found 5 (controlAt (join 44 (set ts i u))) (join-kept (λ x. nowhere (controlAt x)) control-cut ts i u (found-clean 5 (controlAt l) (j .0)) (ap nowhere (plain-no-control u p))),
     )
-    (clean-found 5 (controlAt (join 44 (set ts i u))) (join-kept (λ x. nowhere (controlAt x)) control-cut ts i u (found-clean 5 (controlAt l) (k .1)) (ap nowhere (plain-no-control u p))))

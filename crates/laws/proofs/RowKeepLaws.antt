@@ -5,20 +5,19 @@
 use Prim.Native.Nat.{ℕ, zero, suc, _+_, _-_, _<_}
 use mathlib.Core.Path.{_≡_, refl, sym, ap, subst, _∙_}
 use mathlib.Core.List.{List, [], _∷_}
-use mathlib.Core.Bool.{Bool, true, false, cond}
+use mathlib.Core.Bool.{Bool, true, false}
 use native.Mathlib.Omega.{arith}
 use lib.ListN.{set}
-use lib.Dec.{eqb, ltb}
+use lib.Dec.{ltb}
 use Rattle.text.specs.Cells.{firstPiece, laterPieces, pieces}
-use Rattle.exchange.specs.Faults.{Fault, clean, _then_, unless}
-use Rattle.exchange.specs.LineRules.{lineRules, unended}
+use Rattle.exchange.specs.Faults.{clean, firstOf, unless}
 use Rattle.exchange.specs.Columns.{kindsOf}
-use Rattle.exchange.specs.Rows.{rowRules, boundFault, isEndData}
+use Rattle.exchange.specs.Rows.{isEndData}
 use Rattle.laws.specs.Writes.{join}
-use Rattle.exchange.specs.Places.{Table, Place, first, rows, after, stopped, stopAt, endData, rowsStep, step, accepted, run, outcomeOf}
-use Rattle.exchange.proofs.RunLaws.{run-stopped}
-use Rattle.exchange.proofs.HeaderLaws.{then-clean}
-use Rattle.exchange.proofs.AcceptLaws.{accepted-not-refused, fault-refused, stops-refused, after-accepted, rows-accepted, Early, Next, early, table, next-step, early-ends, early-cut, rows-reached}
+use Rattle.exchange.specs.Places.{Table, Place, first, rows, endList, endRules, step, accepted, run, outcomeOf}
+use Rattle.exchange.specs.RuleWords.{lineRules, rowRules, boundFault}
+use Rattle.exchange.proofs.RuleLaws.{row-step}
+use Rattle.exchange.proofs.AcceptLaws.{accepted-not-refused, cut-refused, after-accepted, end-passed, row-passed, rows-accepted, Early, Next, early, table, next-step, early-ends, rows-reached}
 use Rattle.laws.proofs.JoinLaws.{Free, first-free, later-free, pieces-join}
 use Rattle.laws.proofs.UngridLaws.{all-set}
 
@@ -34,41 +33,33 @@ run-set l p y z zs (suc k) x = refl
 
 module _ (t : Table) (x : List ℕ) (bytes : lineRules true x ≡ clean) (more : isEndData x ≡ false) (cells : rowRules (kindsOf (t .names)) (pieces 44 x) ≡ clean)
     (bound : boundFault (t .names) (pieces 44 x) ≡ clean) where
-  row-step : (l m : ℕ) → unless (ltb m 1000000) 20 1 ≡ clean → rowsStep l t m x ≡ rows t (m + 1)
-  unfolding rowsStep
-  row-step l m e = rw (bytes, more, e, cells, bound)
+  row-set : (l m : ℕ) → unless (ltb m 1000000) 20 1 ≡ clean → step l (rows t m) x ≡ rows t (m + 1)
+  row-set l m e = row-step l t m x more ∙ rw (bytes, e, cells, bound)
 
   -- in the place of data line r of those that follow
   later-row : (ps : List (List ℕ)) (l m : ℕ) (u : Table) (n r : ℕ) → run l (rows t m) ps ≡ accepted u n → r < n - m → run l (rows t m) (set ps r x) ≡ accepted u n
-  unfolding run rowsStep
+  unfolding run endRules endList firstOf
   later-row [] l m u n r e h = absurd (accepted-not-refused e)
   later-row ([] ∷ []) l m u n r e h = absurd (accepted-not-refused e)
-  later-row ((y ∷ ys) ∷ []) l m u n r e h = absurd (fault-refused l (unended (y ∷ ys)) u n e)
-  later-row (y ∷ (z ∷ zs)) l m u n r e h =
-      by (isEndData y) refl (stops-refused (l + 1) 0 l (lineRules true y) _ (z ∷ zs) u n e) (later-row (z ∷ zs) (l + 1) (m + 1) u n)
+  later-row ((y ∷ ys) ∷ []) l m u n r e h = absurd (cut-refused l (rows t m) y ys u n e)
+  later-row (y ∷ (z ∷ zs)) l m u n r e h = by (isEndData y) refl (later-row (z ∷ zs) (l + 1) (m + 1) u n)
     where
-      f : Fault
-      f = (unless (ltb m 1000000) 20 1) then (rowRules (kindsOf (t .names)) (pieces 44 y)) then (boundFault (t .names) (pieces 44 y))
-
-      ends : (b : Bool) → run (l + 1) (cond b (stopped 19 l 1) (after t m)) (z ∷ zs) ≡ accepted u n → m ≡ n
-      ends true e = absurd (accepted-not-refused (sym (run-stopped (l + 1) 19 l 1 (z ∷ zs)) ∙ e))
-      ends false e = after-accepted (z ∷ zs) (l + 1) t m u n e .1
-
-      goes-on : (r : ℕ) → r < n - m → f ≡ clean → rowsStep l t m y ≡ rows t (m + 1) → run (l + 1) (rows t (m + 1)) (z ∷ zs) ≡ accepted u n
+      goes-on : (r : ℕ) → r < n - m → isEndData y ≡ false
           → ((r : ℕ) → run (l + 1) (rows t (m + 1)) (z ∷ zs) ≡ accepted u n → r < n - (m + 1) → run (l + 1) (rows t (m + 1)) (set (z ∷ zs) r x) ≡ accepted u n)
           → run l (rows t m) (set (y ∷ (z ∷ zs)) r x) ≡ accepted u n
-      goes-on zero h c s e ih =
-          ap (λ (p : Place). run (l + 1) p (z ∷ zs)) (row-step l m (then-clean (unless (ltb m 1000000) 20 1) (rowRules (kindsOf (t .names)) (pieces 44 y) then boundFault (t .names) (pieces 44 y)) c .0)) ∙ e
-      goes-on (suc r) h c s e ih =
-          run-set l (rows t m) y z zs r x ∙ ap (λ (p : Place). run (l + 1) p (set (z ∷ zs) r x)) s ∙ ih r e (omega (arith, h))
+      goes-on zero h q ih =
+          let w = row-passed l t m y (z ∷ zs) u n e q in
+          ap (λ (p : Place). run (l + 1) p (z ∷ zs)) (row-set l m (w .1)) ∙ w .4
+      goes-on (suc r) h q ih =
+          let w = row-passed l t m y (z ∷ zs) u n e q in
+          let s : step l (rows t m) y ≡ rows t (m + 1) = row-step l t m y q ∙ rw (w .0, w .1, w .2, w .3) in
+          run-set l (rows t m) y z zs r x ∙ ap (λ (p : Place). run (l + 1) p (set (z ∷ zs) r x)) s ∙ ih r (w .4) (omega (arith, h))
 
-      by : (b : Bool) → isEndData y ≡ b → (lineRules true y ≡ clean) × (run (l + 1) (cond b (endData l t m) (stopAt l f (rows t (m + 1)))) (z ∷ zs) ≡ accepted u n)
+      by : (b : Bool) → isEndData y ≡ b
           → ((r : ℕ) → run (l + 1) (rows t (m + 1)) (z ∷ zs) ≡ accepted u n → r < n - (m + 1) → run (l + 1) (rows t (m + 1)) (set (z ∷ zs) r x) ≡ accepted u n)
           → run l (rows t m) (set (y ∷ (z ∷ zs)) r x) ≡ accepted u n
-      by true q e ih = absurd (omega (arith, h, ends (eqb m 0) (e .1)))
-      by false q e ih =
-          let w = stops-refused (l + 1) 0 l f (rows t (m + 1)) (z ∷ zs) u n (e .1) in
-          goes-on r h (w .0) (rw (e .0, q, w .0)) (w .1) ih
+      by true q ih = absurd (omega (arith, h, after-accepted (z ∷ zs) (l + 1) t m u n (end-passed l t m y (z ∷ zs) u n e q .1) .1))
+      by false q ih = goes-on r h q ih
 
 -- the same from a line before the data
 early-row : (ps : List (List ℕ)) (l : ℕ) (p : Place) (t : Table) (n r : ℕ) (x : List ℕ) → lineRules true x ≡ clean → isEndData x ≡ false → rowRules (kindsOf (t .names)) (pieces 44 x) ≡ clean → boundFault (t .names) (pieces 44 x) ≡ clean
@@ -76,7 +67,7 @@ early-row : (ps : List (List ℕ)) (l : ℕ) (p : Place) (t : Table) (n r : ℕ)
 unfolding run
 early-row [] l p t n r x a b c d0 h e k = absurd (early-ends l p t n h e)
 early-row ([] ∷ []) l p t n r x a b c d0 h e k = absurd (early-ends l p t n h e)
-early-row ((y ∷ ys) ∷ []) l p t n r x a b c d0 h e k = absurd (early-cut l p (y ∷ ys) t n h e)
+early-row ((y ∷ ys) ∷ []) l p t n r x a b c d0 h e k = absurd (cut-refused l p y ys t n e)
 early-row (y ∷ (z ∷ zs)) l p t n r x a b c d0 h e k = by (step l p y) refl (next-step l p y h) e (λ q g d. early-row (z ∷ zs) (l + 1) q t n r x a b c d0 g d k)
   where
     at : (q : Place) (i j : ℕ) → step l p y ≡ q → j ≡ suc i → run (l + 1) q (set (z ∷ zs) i x) ≡ accepted t n → run l p (set (y ∷ (z ∷ zs)) j x) ≡ accepted t n

@@ -1,9 +1,9 @@
 -- The numbers of the rules of a file's lines are 1 to 20.
 use Prim.Native.Nat.{ℕ, zero, suc, _+_, _-_, _≤_}
 use mathlib.Core.Path.{_≡_, refl}
-use mathlib.Core.List.{List, [], _∷_, _++_, map}
+use mathlib.Core.List.{List, [], _∷_, _++_}
 use mathlib.Core.Bool.{Bool, true, false, cond, not, _&&_, _||_}
-use lib.ListN.{length, getD, take}
+use lib.ListN.{length}
 use lib.Dec.{eqb, leb, ltb}
 use borrow.Author.Tests.{leb-true}
 use Rattle.text.specs.declared.Found.{Found}
@@ -15,14 +15,13 @@ use Rattle.text.specs.Decimals.{Verdict, blank, wrong, outOfRange, good}
 use Rattle.text.specs.Judge.{kindOf, judge}
 use Rattle.text.specs.Lines.{illFormed, returnAt, controlAt}
 use Rattle.text.proofs.CellLaws.{both-true}
-use Rattle.exchange.specs.Faults.{Fault, clean, breaks, _then_, unless, kindFault, member, hasAll}
-use Rattle.exchange.specs.LineRules.{foundFault, tooLong}
-use Rattle.exchange.specs.Headers.{Header, rawName, nameOf, valueOf, headerOf, namesIn, nameRule, headersSaid, headerKind, stationNames}
-use Rattle.exchange.specs.Columns.{Sort, bottle, ctd, isFlag, hasParameter, requiredNames, kindsOf}
-use Rattle.exchange.specs.Rows.{boundFault, isEndData}
-use Rattle.exchange.specs.Places.{Table, Place, first, comments, headers, names, units, rows, after, stopped, isMark, isBottle, isCtd, isComment}
-use Rattle.laws.specs.RuleOrder.{lineList, columnAt, cellByCell, nameAmong, nameList, flagList, namesList, cellList, rowList, dataList, lastHeader, firstHeaderList, headerList, topList, rulesAt, endRules, isAfter, linesIn, placeBefore, lineIn, rulesOf}
-use Rattle.laws.proofs.RuleOrderLaws.{firstOf}
+use Rattle.exchange.specs.Faults.{Fault, clean, breaks, _then_, firstOf, unless, kindFault, member, hasAll}
+use Rattle.exchange.specs.LineRules.{foundFault, tooLong, byteList, lineList, cutList}
+use Rattle.exchange.specs.Headers.{Header, rawName, nameOf, valueOf, headerOf, namesIn, nameRule, headersSaid, firstHeaderList, headerKind, headerList, stationNames, lastHeader}
+use Rattle.exchange.specs.Columns.{Sort, bottle, ctd, nameList, isFlag, hasParameter, flagList, requiredNames, namesOf, namesList, kindsOf}
+use Rattle.exchange.specs.Rows.{cellList, rowList, boundList, dataList, isEndData}
+use Rattle.exchange.specs.Places.{Place, first, comments, headers, names, units, rows, after, stopped, isMark, isBottle, isCtd, firstList, isComment, topList, rulesAt, endList, endRules}
+use Rattle.laws.specs.RuleOrder.{linesIn, placeBefore, lineIn, rulesOf}
 
 -- a number of the table, by a test that computes
 abbrev inTable : ℕ → Bool
@@ -76,19 +75,18 @@ either-numbered : (b : Bool) (xs ys : List Fault) → FirstNumbered xs → First
 either-numbered true xs ys h g = h
 either-numbered false xs ys h g = g
 
-cells-numbered : (k n : ℕ) (rules : ℕ → List Fault) → ((k : ℕ) → FirstNumbered (rules k)) → FirstNumbered (cellByCell k n rules)
-unfolding cellByCell
-cells-numbered k zero rules h = none-numbered
-cells-numbered k (suc n) rules h = append-numbered (rules k) (cellByCell (k + 1) n rules) (h k) (cells-numbered (k + 1) n rules h)
-
 -- ---- the lists of the places
 line-numbered : (control : Bool) (x : List ℕ) → FirstNumbered (lineList control x)
-unfolding firstOf lineList
+unfolding firstOf lineList byteList
 line-numbered control x =
     number-then (tooLong x) _ (number-unless (leb (length x) 8192) 1 8193 refl)
     (number-then (foundFault 3 (illFormed x)) _ (number-found 3 (illFormed x) refl)
     (number-then (foundFault 4 (returnAt x)) _ (number-found 4 (returnAt x) refl)
-    (either-numbered control (foundFault 5 (controlAt x) ∷ []) [] (first-numbered (foundFault 5 (controlAt x)) [] (number-found 5 (controlAt x) refl) tt) tt)))
+    (number-then (cond control (foundFault 5 (controlAt x)) clean) clean (go control) tt)))
+  where
+    go : (b : Bool) → Numbered (cond b (foundFault 5 (controlAt x)) clean)
+    go true = number-found 5 (controlAt x) refl
+    go false = tt
 
 unless-numbered : (b : Bool) (n c : ℕ) (rs : List Fault) → inTable n ≡ true → FirstNumbered rs → FirstNumbered (unless b n c ∷ rs)
 unless-numbered b n c rs h g = first-numbered (unless b n c) rs (number-unless b n c h) g
@@ -99,38 +97,39 @@ one-numbered b n c h = unless-numbered b n c [] h none-numbered
 kind-numbered : (v : Verdict) (c : ℕ) (rs : List Fault) → FirstNumbered rs → FirstNumbered (kindFault v c ∷ rs)
 kind-numbered v c rs g = first-numbered (kindFault v c) rs (number-kind v c) g
 
-name-numbered : (ts : List (List ℕ)) (k : ℕ) → FirstNumbered (nameList ts k)
+name-numbered : (c : ℕ) (earlier ts : List (List ℕ)) → FirstNumbered (nameList c earlier ts)
 unfolding nameList
-name-numbered ts k =
-    unless-numbered (ltb k 256) 11 (columnAt ts k) _ refl
-    (unless-numbered (isName (nameAmong ts k)) 10 (columnAt ts k) _ refl (one-numbered (not (member (nameAmong ts k) (map trim (take k ts)))) 9 (columnAt ts k) refl))
+name-numbered c earlier [] = none-numbered
+name-numbered c earlier (t ∷ ts) =
+    unless-numbered (ltb (length earlier) 256) 11 c _ refl
+    (unless-numbered (isName (trim t)) 10 c _ refl
+    (unless-numbered (not (member (trim t) earlier)) 9 c _ refl (name-numbered (c + length t + 1) (earlier ++ trim t ∷ []) ts)))
 
-flag-numbered : (ts : List (List ℕ)) (k : ℕ) → FirstNumbered (flagList ts k)
+flag-numbered : (c : ℕ) (ns ts : List (List ℕ)) → FirstNumbered (flagList c ns ts)
 unfolding flagList
-flag-numbered ts k = one-numbered (not (isFlag (nameAmong ts k)) || hasParameter (map trim ts) (nameAmong ts k)) 12 (columnAt ts k) refl
+flag-numbered c ns [] = none-numbered
+flag-numbered c ns (t ∷ ts) = unless-numbered (not (isFlag (trim t)) || hasParameter ns (trim t)) 12 c _ refl (flag-numbered (c + length t + 1) ns ts)
 
-names-numbered : (s : Sort) (ts : List (List ℕ)) → FirstNumbered (namesList s ts)
+names-numbered : (k : Sort) (x : List ℕ) → FirstNumbered (namesList k x)
 unfolding namesList
-names-numbered s ts =
-    append-numbered (cellByCell 0 (length ts) (nameList ts) ++ cellByCell 0 (length ts) (flagList ts)) (unless (hasAll (requiredNames s) (map trim ts)) 13 1 ∷ [])
-    (append-numbered (cellByCell 0 (length ts) (nameList ts)) (cellByCell 0 (length ts) (flagList ts))
-    (cells-numbered 0 (length ts) (nameList ts) (name-numbered ts)) (cells-numbered 0 (length ts) (flagList ts) (flag-numbered ts)))
-    (one-numbered (hasAll (requiredNames s) (map trim ts)) 13 1 refl)
+names-numbered k x =
+    let a = nameList 1 [] (pieces 44 x) in
+    let b = flagList 1 (namesOf x) (pieces 44 x) in
+    append-numbered (a ++ b) _ (append-numbered a b (name-numbered 1 [] (pieces 44 x)) (flag-numbered 1 (namesOf x) (pieces 44 x)))
+    (one-numbered (hasAll (requiredNames k) (namesOf x)) 13 1 refl)
 
-cell-numbered : (ks : List ℕ) (ts : List (List ℕ)) (k : ℕ) → FirstNumbered (cellList ks ts k)
+cell-numbered : (c : ℕ) (ks : List ℕ) (ts : List (List ℕ)) → FirstNumbered (cellList c ks ts)
 unfolding cellList
-cell-numbered ks ts k = kind-numbered (judge (kindOf (getD ks k 0)) (getD ts k [])) (columnAt ts k) [] none-numbered
+cell-numbered c [] ts = none-numbered
+cell-numbered c (k ∷ ks) [] = none-numbered
+cell-numbered c (k ∷ ks) (t ∷ ts) = kind-numbered (judge (kindOf k) t) c _ (cell-numbered (c + length t + 1) ks ts)
 
-row-numbered : (n : ℕ) (ks : List ℕ) (ts : List (List ℕ)) → FirstNumbered (rowList n ks ts)
-unfolding rowList
-row-numbered n ks ts =
-    unless-numbered (ltb n 1000000) 20 1 _ refl
-    (unless-numbered (eqb (length ts) (length ks)) 15 1 _ refl
-    (cells-numbered 0 (length ks) (cellList ks ts) (cell-numbered ks ts)))
-
-data-numbered : (t : Table) (n : ℕ) (ts : List (List ℕ)) → FirstNumbered (dataList t n ts)
-unfolding dataList boundFault
-data-numbered t n ts = append-numbered (rowList n (kindsOf (t .names)) ts) (boundFault (t .names) ts ∷ []) (row-numbered n (kindsOf (t .names)) ts) (first-numbered (boundFault (t .names) ts) [] tt none-numbered)
+data-numbered : (n : ℕ) (ns ts : List (List ℕ)) → FirstNumbered (dataList n ns ts)
+unfolding dataList rowList boundList
+data-numbered n ns ts =
+    append-numbered (unless (ltb n 1000000) 20 1 ∷ unless (eqb (length ts) (length (kindsOf ns))) 15 1 ∷ cellList 1 (kindsOf ns) ts) []
+    (unless-numbered (ltb n 1000000) 20 1 _ refl (unless-numbered (eqb (length ts) (length (kindsOf ns))) 15 1 _ refl (cell-numbered 1 (kindsOf ns) ts)))
+    none-numbered
 
 last-numbered : (due : ℕ) (hs : List Header) → FirstNumbered (lastHeader due hs)
 unfolding lastHeader
@@ -141,38 +140,52 @@ header-name : (x : List ℕ) (rs : List Fault) → FirstNumbered rs → FirstNum
 unfolding nameRule
 header-name x rs g = unless-numbered (ltb (length (rawName x)) (length x) && leb (length (nameOf x)) 64 && isName (nameOf x)) 8 1 rs refl g
 
-top-numbered : (s : Sort) (x : List ℕ) → FirstNumbered (topList s x)
+top-numbered : (k : Sort) (x : List ℕ) → FirstNumbered (topList k x)
 unfolding firstHeaderList
-top-numbered bottle x = names-numbered bottle (pieces 44 x)
-top-numbered ctd x = header-name x _ (unless-numbered (ltb 0 (headersSaid x)) 8 1 _ refl (last-numbered (headersSaid x - 1) (headerOf x ∷ [])))
+top-numbered bottle x = names-numbered bottle x
+top-numbered ctd x =
+    append-numbered (nameRule x ∷ unless (ltb 0 (headersSaid x)) 8 1 ∷ []) _ (header-name x _ (one-numbered (ltb 0 (headersSaid x)) 8 1 refl))
+    (last-numbered (headersSaid x - 1) (headerOf x ∷ []))
 
-header-numbered : (due : ℕ) (hs : List Header) (x : List ℕ) → FirstNumbered (headerList due hs x)
+header-numbered : (earlier : List (List ℕ)) (x : List ℕ) → FirstNumbered (headerList earlier x)
 unfolding headerList
-header-numbered due hs x =
-    header-name x _ (unless-numbered (not (member (nameOf x) (namesIn hs))) 9 1 _ refl
-    (kind-numbered (judge (kindOf (headerKind (nameOf x))) (valueOf x)) (length (rawName x) + 2) _ (last-numbered (due - 1) (hs ++ headerOf x ∷ []))))
+header-numbered earlier x =
+    header-name x _ (unless-numbered (not (member (nameOf x) earlier)) 9 1 _ refl
+    (kind-numbered (judge (kindOf (headerKind (nameOf x))) (valueOf x)) (length (rawName x) + 2) [] none-numbered))
 
 -- ---- a line at its place, and the file's end
 own-numbered : (x : List ℕ) (rs : List Fault) → FirstNumbered rs → FirstNumbered (lineList true x ++ rs)
 own-numbered x rs g = append-numbered (lineList true x) rs (line-numbered true x) g
 
 rules-numbered : (p : Place) (x : List ℕ) → FirstNumbered (rulesAt p x)
-unfolding rulesAt
+unfolding rulesAt firstList
 rules-numbered first x = own-numbered x _ (unless-numbered (not (isMark x)) 6 1 _ refl (one-numbered (isBottle x || isCtd x) 7 1 refl))
-rules-numbered (comments s) x = either-numbered (isComment x) (lineList false x) (lineList true x ++ topList s x) (line-numbered false x) (own-numbered x (topList s x) (top-numbered s x))
-rules-numbered (headers due hs) x = own-numbered x (headerList due hs x) (header-numbered due hs x)
-rules-numbered (names s hs) x = own-numbered x (namesList s (pieces 44 x)) (names-numbered s (pieces 44 x))
-rules-numbered (units s hs ns) x = own-numbered x _ (one-numbered (eqb (length (pieces 44 x)) (length ns)) 15 1 refl)
+rules-numbered (comments k) x = either-numbered (isComment x) (lineList false x) (lineList true x ++ topList k x) (line-numbered false x) (own-numbered x (topList k x) (top-numbered k x))
+rules-numbered (headers due hs) x =
+    own-numbered x _ (append-numbered (headerList (namesIn hs) x) _ (header-numbered (namesIn hs) x) (last-numbered (due - 1) (hs ++ headerOf x ∷ [])))
+rules-numbered (names k hs) x = own-numbered x (namesList k x) (names-numbered k x)
+rules-numbered (units k hs ns) x = own-numbered x _ (one-numbered (eqb (length (pieces 44 x)) (length ns)) 15 1 refl)
 rules-numbered (rows t n) x =
-    own-numbered x _ (either-numbered (isEndData x) (unless (not (eqb n 0)) 19 1 ∷ []) (dataList t n (pieces 44 x))
-    (one-numbered (not (eqb n 0)) 19 1 refl) (data-numbered t n (pieces 44 x)))
+    own-numbered x _ (either-numbered (isEndData x) (unless (not (eqb n 0)) 19 1 ∷ []) (dataList n (t .names) (pieces 44 x))
+    (one-numbered (not (eqb n 0)) 19 1 refl) (data-numbered n (t .names) (pieces 44 x)))
 rules-numbered (after t n) x = line-numbered false x
 rules-numbered (stopped a b c) x = none-numbered
 
+last-line-numbered : (due : Bool) (x : List ℕ) → FirstNumbered (endList due x)
+unfolding endList cutList
+last-line-numbered due [] = one-numbered (not due) 14 1 refl
+last-line-numbered due (x ∷ xs) = unless-numbered (leb (length (x ∷ xs)) 8192) 1 8193 _ refl (first-numbered (breaks 2 (length (x ∷ xs) + 1)) [] refl none-numbered)
+
 end-numbered : (p : Place) (x : List ℕ) → FirstNumbered (endRules p x)
 unfolding endRules
-end-numbered p [] = one-numbered (isAfter p) 14 1 refl
-end-numbered p (x ∷ xs) = unless-numbered (leb (length (x ∷ xs)) 8192) 1 8193 _ refl (first-numbered (breaks 2 (length (x ∷ xs) + 1)) [] refl none-numbered)
+end-numbered first x = last-line-numbered true x
+end-numbered (comments k) x = last-line-numbered true x
+end-numbered (headers due hs) x = last-line-numbered true x
+end-numbered (names k hs) x = last-line-numbered true x
+end-numbered (units k hs ns) x = last-line-numbered true x
+end-numbered (rows t n) x = last-line-numbered true x
+end-numbered (after t n) x = last-line-numbered false x
+end-numbered (stopped a b c) x = none-numbered
 
 pub number-of : (f : List ℕ) (l : ℕ) → Numbered (firstOf (rulesOf f l))
 unfolding rulesOf

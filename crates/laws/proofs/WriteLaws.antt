@@ -25,13 +25,13 @@ use Rattle.text.specs.Rows.{isGood}
 use Rattle.text.proofs.EqualLaws.{equal-same}
 use Rattle.text.proofs.EveryLaws.{every-cons}
 use Rattle.text.proofs.LineLaws.{isPlain}
-use Rattle.exchange.specs.Faults.{clean, breaks, _then_, unless, kindFault}
-use Rattle.exchange.specs.LineRules.{lineRules}
+use Rattle.exchange.specs.Faults.{clean, breaks, _then_, unless, kindFault, firstOf}
 use Rattle.exchange.specs.Columns.{kindsOf}
-use Rattle.exchange.specs.Rows.{cellFaults, rowRules, boundFault, isEndData}
+use Rattle.exchange.specs.Rows.{isEndData, cellList, rowList}
 use Rattle.laws.specs.Writes.{join, ungrid, Write, written}
 use Rattle.exchange.specs.Profiles.{grid}
 use Rattle.exchange.specs.Places.{Table, accepted, outcomeOf}
+use Rattle.exchange.specs.RuleWords.{lineRules, cellFaults, rowRules, boundFault}
 use Rattle.exchange.proofs.HeaderLaws.{then-clean}
 use Rattle.exchange.proofs.RowLaws.{fault-good}
 use Rattle.exchange.proofs.GridLaws.{getD-mapped, cells-many}
@@ -49,7 +49,7 @@ fault-moved outOfRange c d e = let z : _≡_ {A = ℕ} 0 1 = cc in absurd (omega
 fault-moved (good m v n) c d e = refl
 
 faults-moved : (ks : List ℕ) (ts : List (List ℕ)) (c d : ℕ) → cellFaults c ks ts ≡ clean → cellFaults d ks ts ≡ clean
-unfolding cellFaults
+unfolding cellFaults cellList firstOf
 faults-moved [] ts c d e = refl
 faults-moved (k ∷ ks) [] c d e = refl
 faults-moved (k ∷ ks) (t ∷ ts) c d e =
@@ -57,7 +57,7 @@ faults-moved (k ∷ ks) (t ∷ ts) c d e =
     rw (fault-moved (judge (kindOf k) t) c d (w .0)) (faults-moved ks ts (c + length t + 1) (d + length t + 1) (w .1))
 
 faults-kept : (ks : List ℕ) (ts : List (List ℕ)) (i : ℕ) (u : List ℕ) (c d : ℕ) → isGood (judge (kindOf (getD ks i 0)) u) ≡ true → cellFaults c ks ts ≡ clean → cellFaults d ks (set ts i u) ≡ clean
-unfolding cellFaults
+unfolding cellFaults cellList firstOf
 faults-kept [] ts i u c d g e = refl
 faults-kept (k ∷ ks) [] i u c d g e = refl
 faults-kept (k ∷ ks) (t ∷ ts) zero u c d g e =
@@ -68,14 +68,14 @@ faults-kept (k ∷ ks) (t ∷ ts) (suc i) u c d g e =
     rw (fault-moved (judge (kindOf k) t) c d (w .0)) (faults-kept ks ts i u (c + length t + 1) (d + length t + 1) g (w .1))
 
 pub rules-kept : (ks : List ℕ) (ts : List (List ℕ)) (i : ℕ) (u : List ℕ) → isGood (judge (kindOf (getD ks i 0)) u) ≡ true → rowRules ks ts ≡ clean → rowRules ks (set ts i u) ≡ clean
-unfolding rowRules
+unfolding rowRules cellFaults rowList firstOf
 rules-kept ks ts i u g e =
     let w = then-clean (unless (eqb (length ts) (length ks)) 15 1) (cellFaults 1 ks ts) e in
     rw (length-set ts i u, w .0, faults-kept ks ts i u 1 1 g (w .1))
 
 -- ---- a row with a measured column is not the line END_DATA, whose one cell is no decimal
 end-no-row : (ks : List ℕ) (c : ℕ) → c < length ks → getD ks c 0 ≡ 0 → rowRules ks (bytes "END_DATA" ∷ []) ≡ clean → ⊥
-unfolding rowRules cellFaults every lead keep back trim front fraction unsignedOf decimalOf kindOf ofKind judge
+unfolding rowRules cellFaults rowList firstOf cellList every lead keep back trim front fraction unsignedOf decimalOf kindOf ofKind judge
 end-no-row [] c h k e = absurd (omega arith)
 end-no-row (x ∷ []) zero h k e =
     let f : breaks 16 1 ≡ clean = subst (λ (y : ℕ). rowRules (y ∷ []) (bytes "END_DATA" ∷ []) ≡ clean) k e in
