@@ -15,7 +15,9 @@ use Rattle.exchange.specs.Headers.{Header, headerOf, headersSaid}
 use Rattle.exchange.specs.Columns.{Sort, bottle, ctd}
 use Rattle.exchange.specs.Rows.{isEndData}
 use Rattle.exchange.specs.Places.{Table, Place, first, comments, headers, names, units, rows, after, stopped, isComment, rulesAt, endList, endRules, dueHeaders, afterTop, nextPlace, stopAt, Outcome, accepted, refused, outcomeAt, last, run, outcomeOf}
-use Rattle.exchange.specs.Answers.{checkedBy, checkedOf}
+use Rattle.exchange.specs.declared.FileKind.the-variants.{Unknown}
+use Rattle.exchange.specs.declared.Checked.{Checked}
+use Rattle.exchange.specs.Answers.{kindBy, checkedBy, checkedOf}
 use Rattle.laws.specs.RuleOrder.{walk, linesIn, placeBefore, rulesOf}
 use Rattle.laws.specs.Promises.{Kept, Broken, FirstBroken, AllKept, ChecksFirst}
 use Rattle.exchange.proofs.RuleLaws.{Going, cut-rules}
@@ -256,11 +258,45 @@ module _ (f : List ℕ) where
       by (accepted t n) e = refl
       by (refused n l c) e = let b = refuses-first n l c e in absurd (kept-broken l n c (k l (b .low) (b .high)) (b .here))
 
+  -- the answer of a refused file is no accepted one's: its kind is none
+  no-kind : (s : Sort) → kindBy s ≡ Unknown → ⊥
+  no-kind bottle e =
+      let z : _≡_ {A = ℕ} 0 1 = cc in
+      omega arith
+  no-kind ctd e =
+      let z : _≡_ {A = ℕ} 0 1 = cc in
+      omega arith
+
+  answer-first : (n l c : ℕ) → checkedOf f ≡ checkedBy f (refused n l c) → FirstBroken f n l c
+  unfolding checkedOf
+  answer-first n l c h = by (outcomeOf f) refl h
+    where
+      by : (o : Outcome) → outcomeOf f ≡ o → checkedBy f o ≡ checkedBy f (refused n l c) → FirstBroken f n l c
+      by (accepted t m) e h = absurd (no-kind (t .sort) (ap (λ (x : Checked). x .kind) h))
+      by (refused m k d) e h =
+          let a : m ≡ n = ap (λ (x : Checked). x .number) h in
+          let b : k ≡ l = ap (λ (x : Checked). x .line) h in
+          let g : d ≡ c = ap (λ (x : Checked). x .column) h in
+          refuses-first n l c (e ∙ rw (a, b, g))
+
+  first-answer : (n l c : ℕ) → FirstBroken f n l c → checkedOf f ≡ checkedBy f (refused n l c)
+  unfolding checkedOf
+  first-answer n l c b = ap (checkedBy f) (first-refuses n l c b)
+
+  kept-accepts : AllKept f → (t : Table) × (n : ℕ) × (outcomeOf f ≡ accepted t n)
+  kept-accepts k = by (outcomeOf f) refl
+    where
+      by : (o : Outcome) → outcomeOf f ≡ o → (t : Table) × (n : ℕ) × (outcomeOf f ≡ accepted t n)
+      by (accepted t n) e = (t, n, e)
+      by (refused n l c) e = let b = refuses-first n l c e in absurd (kept-broken l n c (k l (b .low) (b .high)) (b .here))
+
 pub checks-first : ChecksFirst
 checks-first = record {
   refuses = λ f n l c. (refuses-first f n l c, first-refuses f n l c);
+  answers = λ f n l c. (answer-first f n l c, first-answer f n l c);
   shown = refusal-shown;
   numbers = first-number;
-  accepts = λ f. (number-kept f, kept-number f);
+  accepts = λ f. (λ x. accepts-all f (x .0) (x .1) (x .2), kept-accepts f);
+  passes = λ f. (number-kept f, kept-number f);
   table = accepts-place;
 }

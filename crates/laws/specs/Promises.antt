@@ -16,7 +16,7 @@ use Rattle.exchange.specs.Faults.{Fault, clean, breaks}
 use Rattle.exchange.specs.Columns.{bottle, ctd, kindsOf}
 use Rattle.exchange.specs.Places.{Table, after, Outcome, accepted, refused, outcomeOf}
 use Rattle.exchange.specs.Profiles.{Key, keyOf}
-use Rattle.exchange.specs.Answers.{checkedOf, askedOf, kindAt, rowCells, cellText, cellPlace, trimmedPlace, cellOf, refusalBy, readingFor, flaggedOf}
+use Rattle.exchange.specs.Answers.{checkedBy, checkedOf, askedOf, kindAt, rowCells, cellText, cellPlace, trimmedPlace, cellOf, refusalBy, readingFor, flaggedOf}
 use Rattle.exchange.specs.Located.{isMeasured, nowhere}
 use Rattle.exchange.specs.Records.{noProfile, profileOf}
 use Rattle.laws.specs.RuleOrder.{linesIn, placeBefore, rulesOf}
@@ -173,11 +173,13 @@ pub record FirstBroken (f : List ℕ) (n l c : ℕ) : Type 0 where
 abbrev pub AllKept : List ℕ → Type 0
 AllKept f = (l : ℕ) → 1 ≤ l → l ≤ linesIn f → Kept (rulesOf f l)
 
--- the check refuses with n at l and c exactly where this is the first broken rule, which is one of 1 to 20, and accepts exactly where none is broken;
--- an accepted file's table and rows are those to which its lines lead
+-- the check refuses with n at l and c exactly where this is the first broken rule, which is one of 1 to 20, and accepts exactly where none is broken, its
+-- outcome and its answer alike; an accepted file's table and rows are those to which its lines lead
 pub record ChecksFirst : Type 0 where
   pub refuses : (f : List ℕ) (n l c : ℕ) → (outcomeOf f ≡ refused n l c) ↔ FirstBroken f n l c
+  pub answers : (f : List ℕ) (n l c : ℕ) → (checkedOf f ≡ checkedBy f (refused n l c)) ↔ FirstBroken f n l c
   pub shown : (f : List ℕ) → (checkedOf f .number ≡ 0 → ⊥) → FirstBroken f (checkedOf f .number) (checkedOf f .line) (checkedOf f .column)
   pub numbers : (f : List ℕ) (n l c : ℕ) → FirstBroken f n l c → (1 ≤ n) × (n ≤ 20)
-  pub accepts : (f : List ℕ) → (checkedOf f .number ≡ 0) ↔ AllKept f
+  pub accepts : (f : List ℕ) → ((t : Table) × (n : ℕ) × (outcomeOf f ≡ accepted t n)) ↔ AllKept f
+  pub passes : (f : List ℕ) → (checkedOf f .number ≡ 0) ↔ AllKept f
   pub table : (f : List ℕ) (t : Table) (n : ℕ) → outcomeOf f ≡ accepted t n → placeBefore f (linesIn f) ≡ after t n
