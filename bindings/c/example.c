@@ -63,7 +63,7 @@ static void correct(size_t length, const char *line)
     int64_t millionths, now;
     double value;
     uint64_t order[6], out[3], flag[4];
-    if (pochahuic_line((const uint8_t *)line, strlen(line), &millionths, order) != 0)
+    if (pochahuic_list_line((const uint8_t *)line, strlen(line), &millionths, order) != 0)
         print_refusal("no correction", (uint64_t[]){ order[0], 0, 0 });
     else if (pochahuic_correct(file, length, order[1], SALNTY, millionths, order[4], order[5], out) != 0)
         print_refusal("not corrected", out);

@@ -58,7 +58,7 @@ uint64_t pochahuic_correct(uint8_t *file, size_t length, uint64_t row, uint64_t 
 
 /* Reads one line of a correction list, with its line feed: row, column name, decimal, flag, parted by tabs.
  * out[0]: 0 or 26; [1] row; [2] and [3] start and length of the name in the line; [4] decimals as written; [5] flag; *millionths the value. All 0 where refused. */
-uint64_t pochahuic_line(const uint8_t *line, size_t length, int64_t *millionths, uint64_t out[6]);
+uint64_t pochahuic_list_line(const uint8_t *line, size_t length, int64_t *millionths, uint64_t out[6]);
 
 /* What a refusal number says, in one sentence; of every other number, 0 too, the empty text. */
 static inline const char *pochahuic_message(uint64_t number)

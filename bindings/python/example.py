@@ -6,7 +6,7 @@ import pochahuic
 
 
 def correct(file, line):
-    order = pochahuic.read_line(line)
+    order = pochahuic.read_list_line(line)
     column = file.column(order.name)
     try:
         file.correct(order.row, column, order.millionths, order.decimals, order.flag)

@@ -60,7 +60,7 @@ def _load():
         "profile": [_bytes, _length, _number, _out],
         "station": [_bytes, _length, _number, _bytes, _length, _out],
         "correct": [_bytes, _length, _number, _number, ctypes.c_int64, _number, _number, _out],
-        "line": [_bytes, _length, _millionths, _out],
+        "list_line": [_bytes, _length, _millionths, _out],
     }.items():
         call = getattr(library, "pochahuic_" + name)
         call.argtypes, call.restype = arguments, ctypes.c_uint64
@@ -182,9 +182,9 @@ class File:
         return names.index(name) + 1
 
 
-def read_line(line):
+def read_list_line(line):
     """One line of a correction list, with its line feed."""
     millionths, out = ctypes.c_int64(), (ctypes.c_uint64 * 6)()
-    if _library.pochahuic_line(_lent(line), len(line), millionths, out) != 0:
+    if _library.pochahuic_list_line(_lent(line), len(line), millionths, out) != 0:
         raise Refused(out[0], 0, 0)
     return Correction(out[1], line[out[2] : out[2] + out[3]].decode(), millionths.value, out[4], out[5])

@@ -94,7 +94,7 @@ fn answer(words: &[&str], bytes: &mut [u8]) -> Result<String, Refusal> {
             format!("applied {:08x}", crc(bytes))
         }
         "line" => {
-            let line = pochahuic::read_line(bytes)?;
+            let line = pochahuic::read_list_line(bytes)?;
             let start = line.name.as_ptr() as usize - bytes.as_ptr() as usize;
             format!(
                 "line {} {start} {} {} {} {}",

@@ -15,7 +15,7 @@ fn salinity(file: &[u8], row: u64) -> Result<String, Refusal> {
 
 /// Makes the correction of one list line, whose column is SALNTY.
 fn correct(file: &mut [u8], line: &[u8]) -> Result<(), Refusal> {
-    let order = pochahuic::read_line(line)?;
+    let order = pochahuic::read_list_line(line)?;
     match pochahuic::correct(file, order.row, SALNTY, order.millionths, order.decimals, order.flag)
     {
         Ok(()) => println!("corrected: row {}, SALNTY {}", order.row, salinity(file, order.row)?),

@@ -51,7 +51,7 @@ extern "C" {
         flag: u64,
         out: *mut [u64; 3],
     ) -> u64;
-    fn pochahuic_line(
+    fn pochahuic_list_line(
         line: *const u8,
         length: usize,
         millionths: *mut i64,
@@ -243,9 +243,9 @@ pub fn correct(
 }
 
 /// Reads one line of a correction list, with its line feed.
-pub fn read_line(line: &[u8]) -> Result<Correction<'_>, Refusal> {
+pub fn read_list_line(line: &[u8]) -> Result<Correction<'_>, Refusal> {
     let (mut millionths, mut out) = (0, [0; 6]);
-    unsafe { pochahuic_line(line.as_ptr(), line.len(), &mut millionths, &mut out) };
+    unsafe { pochahuic_list_line(line.as_ptr(), line.len(), &mut millionths, &mut out) };
     let [number, row, start, length, decimals, flag] = out;
     refused(number, 0, 0)?;
     let name = &line[start as usize..][..length as usize];

@@ -1,7 +1,7 @@
 //! Every call on file K of the rules, accepted and refused.
 
 use pochahuic::{
-    cell, check, correct, decimal, flag, profile, read_line, station, Checked, Correction, Kind,
+    cell, check, correct, decimal, flag, profile, read_list_line, station, Checked, Correction, Kind,
     Profile, Reading, Refusal,
 };
 
@@ -110,9 +110,9 @@ fn a_refused_correction_changes_nothing() {
 fn list_lines() {
     let order =
         Correction { row: 2, name: b"SALNTY", millionths: 35_130_100, decimals: 4, flag: 2 };
-    assert_eq!(read_line(b"2\tSALNTY\t35.1301\t2\n"), Ok(order));
-    assert_eq!(read_line(b"2\tSALNTY\t35.1301\t2"), Err(refusal(26, 0, 0)));
-    assert_eq!(read_line(b""), Err(refusal(26, 0, 0)));
+    assert_eq!(read_list_line(b"2\tSALNTY\t35.1301\t2\n"), Ok(order));
+    assert_eq!(read_list_line(b"2\tSALNTY\t35.1301\t2"), Err(refusal(26, 0, 0)));
+    assert_eq!(read_list_line(b""), Err(refusal(26, 0, 0)));
 }
 
 /// The texts between double quotes of a list that begins after `opening`.

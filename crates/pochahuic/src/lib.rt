@@ -11,14 +11,27 @@ use exchange::CastTime;
 use exchange::FileKind;
 use text::Reading;
 
-// 0 none, 1 bottle, 2 CTD.
+// The kind of a file as a number: of a refused one, of a bottle and of a CTD file.
+const NO_KIND: u64 = 0;
+
+const BOTTLE: u64 = 1;
+
+const CTD: u64 = 2;
+
+// Which reading a decimal has.
+const PRESENT: u64 = 0;
+
+const MISSING: u64 = 1;
+
+const REFUSED: u64 = 2;
+
 fn kind_number(kind: FileKind) -> u64
     ensures { λ r. ⌜ r ≡ kindNumber kind ⌝ }
 {
     match kind {
-        FileKind::Unknown => 0,
-        FileKind::Bottle => 1,
-        FileKind::Ctd => 2,
+        FileKind::Unknown => NO_KIND,
+        FileKind::Bottle => BOTTLE,
+        FileKind::Ctd => CTD,
     }
 }
 
@@ -61,7 +74,7 @@ pub extern "C" fn pochahuic_cell(file: &[u8], row: u64, column: u64, out: &mut [
     at.number
 }
 
-// Reads a decimal: 0 present, 1 missing, 2 refused; the millionths and the double, and number, line, column.
+// Reads a decimal: PRESENT, MISSING or REFUSED; the millionths and the double, and number, line, column.
 #[no_mangle]
 pub extern "C" fn pochahuic_decimal(
     file: &[u8],
@@ -87,16 +100,16 @@ pub extern "C" fn pochahuic_decimal(
         } => {
             *millionths = m;
             *value = v;
-            0
+            PRESENT
         }
-        Reading::Missing => 1,
+        Reading::Missing => MISSING,
         Reading::Refused {
             number: n,
             line: l,
             column: c,
         } => {
             *out = [n, l, c];
-            2
+            REFUSED
         }
     }
 }
@@ -202,7 +215,7 @@ pub extern "C" fn pochahuic_correct(
 
 // Reads one line of a correction list: its millionths, and number, row, the name's start and length, decimals, flag; the start counts from 0.
 #[no_mangle]
-pub extern "C" fn pochahuic_line(line: &[u8], millionths: &mut i64, out: &mut [u64; 6]) -> u64
+pub extern "C" fn pochahuic_list_line(line: &[u8], millionths: &mut i64, out: &mut [u64; 6]) -> u64
     ensures { λ r. ⌜ r ≡ lineRead (now (line .entry)) .number ⌝ }
     ensures { λ _. ⌜ now (millionths .exit) ≡ lineRead (now (line .entry)) .millionths ⌝ }
     ensures { λ _. ⌜ now (out .exit) ≡ lineNumbers (lineRead (now (line .entry))) ⌝ }
