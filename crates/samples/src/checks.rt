@@ -1,5 +1,6 @@
 // Samples of the check.
 use crate::file_k::edited;
+use text::refusals;
 
 // Whether K, with a text in place of its bytes from a line and column on, is refused so.
 fn is_refused(at: u64, from: usize, t: &[u8], number: u64, line: u64, column: u64) -> bool {
@@ -17,26 +18,26 @@ pub fn accepts(t: &[u8]) -> bool {
 
 // Whether K with these bytes in its comment is refused by 3.
 pub fn refuses(t: &[u8]) -> bool {
-    is_refused(2, 3, t, 3, 2, 3)
+    is_refused(2, 3, t, refusals::ILL_FORMED_UTF8, 2, 3)
 }
 
 pub fn empty_file() -> bool {
     let c = exchange::check(b"");
-    (c.number == 14) & (c.line == 1) & (c.column == 1)
+    (c.number == refusals::LINE_DUE) & (c.line == 1) & (c.column == 1)
 }
 
 pub fn blank_salinity() -> bool {
-    is_refused(5, 53, b"        ", 17, 5, 53)
+    is_refused(5, 53, b"        ", refusals::BLANK, 5, 53)
 }
 
 pub fn flag_zero() -> bool {
-    is_refused(7, 62, b"0", 18, 7, 62)
+    is_refused(7, 62, b"0", refusals::OUT_OF_RANGE, 7, 62)
 }
 
 pub fn bottles() -> bool {
-    is_refused(1, 7, b"S", 7, 1, 1)
+    is_refused(1, 7, b"S", refusals::BAD_FIRST_LINE, 1, 1)
 }
 
 pub fn line_ends() -> bool {
-    is_refused(4, 18, b"\r", 4, 4, 18)
+    is_refused(4, 18, b"\r", refusals::CARRIAGE_RETURN, 4, 18)
 }

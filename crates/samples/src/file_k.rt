@@ -39,7 +39,7 @@ fn line_start(file: &[u8], line: u64) -> usize {
         if left <= 1 {
             return i;
         }
-        if file[i] == 10 {
+        if file[i] == b'\n' {
             left -= 1;
         }
         i += 1;

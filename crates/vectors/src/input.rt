@@ -36,7 +36,7 @@ pub fn read_head(buffer: &mut [u8; 65536], place: &mut [usize; 2], head: &mut [u
         let Next::Byte(b) = next_byte(buffer, place) else {
             return 0;
         };
-        if b == 10 {
+        if b == b'\n' {
             return n;
         }
         head[n] = b;
@@ -61,7 +61,7 @@ fn ends_line(buffer: &mut [u8; 65536], place: &mut [usize; 2]) -> bool {
     let Next::Byte(b) = next_byte(buffer, place) else {
         return false;
     };
-    b == 10
+    b == b'\n'
 }
 
 // Reads bytes until `to` is full, and a line feed; not all: the input ended before.
