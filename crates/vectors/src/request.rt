@@ -20,7 +20,7 @@ fn word_end(head: &[u8]) -> usize
 {
     let mut n = 0;
     while n < head.len() {
-        if head[n] == 32 {
+        if head[n] == b' ' {
             return n;
         }
         n += 1;
@@ -72,7 +72,7 @@ fn with_digit(v: u64, digit: u8) -> u64 {
 }
 
 fn is_digit(b: u8) -> bool {
-    (48 <= b) & (b <= 57)
+    (b'0' <= b) & (b <= b'9')
 }
 
 // Where word k starts, counted from 0; the end where there are not so many.
@@ -83,7 +83,7 @@ fn word_start(head: &[u8], k: usize) -> usize {
         if left == 0 {
             return i;
         }
-        if head[i] == 32 {
+        if head[i] == b' ' {
             left -= 1;
         }
         i += 1;
@@ -129,7 +129,7 @@ fn with_sign(minus: bool, size: u64) -> i64 {
 pub fn signed_in(head: &[u8], k: usize) -> i64 {
     let at = word_start(head, k);
     if at < head.len() {
-        if head[at] == 45 {
+        if head[at] == b'-' {
             return with_sign(true, number_at(head, at + 1));
         }
     }
@@ -141,7 +141,7 @@ pub fn length_in(head: &[u8; 256]) -> u64 {
     let mut i = 256;
     while 0 < i {
         let k = i - 1;
-        if head[k] == 32 {
+        if head[k] == b' ' {
             return number_at(head, i);
         }
         i = k;
