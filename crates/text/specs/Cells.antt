@@ -25,8 +25,8 @@ lineAt s i = firstPiece 10 (drop i s)
 abbrev pub cellAt : ℕ → List ℕ → ℕ → List ℕ
 cellAt c s i = firstPiece c (lineAt s i)
 
-unfoldable pub next : ℕ → List ℕ → ℕ → ℕ
-next c s i = i + length (cellAt c s i)
+unfoldable pub cellEnd : ℕ → List ℕ → ℕ → ℕ
+cellEnd c s i = i + length (cellAt c s i)
 
 -- what parts cells: a comma, in a correction list a tab, and a line feed where the rest of the line is one cell
 abbrev pub separates : ℕ → Bool

@@ -6,14 +6,7 @@ use mathlib.Core.Bool.{Bool, true, false, cond, _&&_}
 use lib.ListN.{length}
 use lib.Dec.{leb, eqb}
 use Rattle.text.specs.Bytes.{isDigit, every, numeral}
-
--- A text judged: blank where a kind is asked, not of its kind, of its kind but out of range, or good. What is good writes a number:
--- its sign, its size (a decimal's in millionths), and the decimals as written.
-pub data Verdict : Type 0 where
-  blank : Verdict
-  wrong : Verdict
-  outOfRange : Verdict
-  good : (minus : Bool) (size decimals : ℕ) → Verdict
+use Rattle.text.specs.Verdicts.{Verdict, wrong, good}
 
 -- the digits at the front; and what stands after them and a point
 unfoldable pub front : List ℕ → List ℕ

@@ -3,21 +3,23 @@ ghost use mathlib.Core.Path.{_≡_};
 ghost use mathlib.Core.Bool.{false};
 ghost use mathlib.Core.List.{_∷_};
 ghost use Prim.Native.Nat.{_≤_};
-ghost use Rattle.text.specs.Cells.{next, cellAt};
+ghost use Rattle.text.specs.Cells.{cellEnd, cellAt};
 ghost use Rattle.text.specs.Spaces.{trim};
-ghost use Rattle.text.specs.Decimals.{wrong, outOfRange, good};
-ghost use Rattle.text.specs.Judge.{unlessBlank, judgedOf, atMost, inFlags, wholeOf, keyOf, dateOf, clockOf, timeOf, judge as judgeKind, kindOf, topOf, rangedOf};
-ghost use Rattle.text.specs.Scans.{Stop, body, closing};
+ghost use Rattle.text.specs.Verdicts.{wrong, outOfRange, good};
+ghost use Rattle.text.specs.Kinds.{kindOf};
+ghost use Rattle.text.specs.Judge.{unlessBlank, judgedOf, atMost, inFlags, wholeOf, keyTextOf, dateOf, clockOf, timeOf, judge as judgeKind};
+ghost use Rattle.text.specs.Inner.Cells.{topOf, rangedOf};
+ghost use Rattle.text.specs.Inner.Scans.{Stop, body, closing};
 use crate::Judged;
 use crate::dates::is_date;
 use crate::decimals::blank_cell;
 use crate::decimals::close;
 use crate::decimals::decimal;
 use crate::decimals::wrong_cell;
-use crate::runs::digits;
-use crate::runs::spaces;
-use crate::runs::text_end;
-use crate::runs::word_end;
+use crate::scans::digits;
+use crate::scans::spaces;
+use crate::scans::text_end;
+use crate::scans::word_end;
 
 // What stands at i where no cell goes on.
 pub fn no_cell(i: usize) -> Judged
@@ -69,7 +71,7 @@ fn top(kind: u8) -> u64
 
 fn flag(s: &[u8], i: usize, e: usize, separator: u8, ctd: bool) -> Judged
     requires { ⌜ Stop separator (now s) i e ⌝ }
-    ensures { λ r. ⌜ r ≡ judgedOf (next separator (now (s .entry)) i) (unlessBlank (λ t. inFlags ctd (wholeOf 1 t)) (trim (cellAt separator (now (s .entry)) i))) ⌝ }
+    ensures { λ r. ⌜ r ≡ judgedOf (cellEnd separator (now (s .entry)) i) (unlessBlank (λ t. inFlags ctd (wholeOf 1 t)) (trim (cellAt separator (now (s .entry)) i))) ⌝ }
 {
     let a = spaces(s, i, e, separator);
     let b = s[a];
@@ -91,7 +93,7 @@ fn flag(s: &[u8], i: usize, e: usize, separator: u8, ctd: bool) -> Judged
 
 fn key(s: &[u8], i: usize, e: usize, separator: u8) -> Judged
     requires { ⌜ Stop separator (now s) i e ⌝ }
-    ensures { λ r. ⌜ r ≡ judgedOf (next separator (now (s .entry)) i) (unlessBlank keyOf (trim (cellAt separator (now (s .entry)) i))) ⌝ }
+    ensures { λ r. ⌜ r ≡ judgedOf (cellEnd separator (now (s .entry)) i) (unlessBlank keyTextOf (trim (cellAt separator (now (s .entry)) i))) ⌝ }
 {
     let a = spaces(s, i, e, separator);
     let b = s[a];
@@ -104,7 +106,7 @@ fn key(s: &[u8], i: usize, e: usize, separator: u8) -> Judged
 
 pub fn whole_number(s: &[u8], i: usize, e: usize, separator: u8, most: usize) -> Judged
     requires { ⌜ Stop separator (now s) i e × (most ≤ 9) ⌝ }
-    ensures { λ r. ⌜ r ≡ judgedOf (next separator (now (s .entry)) i) (unlessBlank (wholeOf most) (trim (cellAt separator (now (s .entry)) i))) ⌝ }
+    ensures { λ r. ⌜ r ≡ judgedOf (cellEnd separator (now (s .entry)) i) (unlessBlank (wholeOf most) (trim (cellAt separator (now (s .entry)) i))) ⌝ }
 {
     let a = spaces(s, i, e, separator);
     let b = s[a];
@@ -125,7 +127,7 @@ pub fn whole_number(s: &[u8], i: usize, e: usize, separator: u8, most: usize) ->
 
 fn date(s: &[u8], i: usize, e: usize, separator: u8) -> Judged
     requires { ⌜ Stop separator (now s) i e ⌝ }
-    ensures { λ r. ⌜ r ≡ judgedOf (next separator (now (s .entry)) i) (unlessBlank dateOf (trim (cellAt separator (now (s .entry)) i))) ⌝ }
+    ensures { λ r. ⌜ r ≡ judgedOf (cellEnd separator (now (s .entry)) i) (unlessBlank dateOf (trim (cellAt separator (now (s .entry)) i))) ⌝ }
 {
     let a = spaces(s, i, e, separator);
     let b = s[a];
@@ -153,7 +155,7 @@ fn date(s: &[u8], i: usize, e: usize, separator: u8) -> Judged
 // The rest of -999 after its sign.
 fn nines(s: &[u8], p: usize, e: usize, separator: u8) -> Judged
     requires { ⌜ Stop separator (now s) p e ⌝ }
-    ensures { λ r. ⌜ r ≡ judgedOf (next separator (now (s .entry)) p) (timeOf (45 ∷ body separator (now (s .entry)) p)) ⌝ }
+    ensures { λ r. ⌜ r ≡ judgedOf (cellEnd separator (now (s .entry)) p) (timeOf (45 ∷ body separator (now (s .entry)) p)) ⌝ }
 {
     if s[p] != 57 {
         wrong_cell(s, p, e, separator)
@@ -169,7 +171,7 @@ fn nines(s: &[u8], p: usize, e: usize, separator: u8) -> Judged
 // A time of day, after its spaces.
 fn clock(s: &[u8], a: usize, e: usize, separator: u8) -> Judged
     requires { ⌜ Stop separator (now s) a e ⌝ }
-    ensures { λ r. ⌜ r ≡ judgedOf (next separator (now (s .entry)) a) (clockOf (body separator (now (s .entry)) a)) ⌝ }
+    ensures { λ r. ⌜ r ≡ judgedOf (cellEnd separator (now (s .entry)) a) (clockOf (body separator (now (s .entry)) a)) ⌝ }
 {
     let w = digits(s, a, e, separator, a + 5, 0);
     let q = w.at;
@@ -190,7 +192,7 @@ fn clock(s: &[u8], a: usize, e: usize, separator: u8) -> Judged
 
 fn time(s: &[u8], i: usize, e: usize, separator: u8) -> Judged
     requires { ⌜ Stop separator (now s) i e ⌝ }
-    ensures { λ r. ⌜ r ≡ judgedOf (next separator (now (s .entry)) i) (unlessBlank timeOf (trim (cellAt separator (now (s .entry)) i))) ⌝ }
+    ensures { λ r. ⌜ r ≡ judgedOf (cellEnd separator (now (s .entry)) i) (unlessBlank timeOf (trim (cellAt separator (now (s .entry)) i))) ⌝ }
 {
     let a = spaces(s, i, e, separator);
     let b = s[a];
@@ -205,7 +207,7 @@ fn time(s: &[u8], i: usize, e: usize, separator: u8) -> Judged
 
 fn free(s: &[u8], i: usize, e: usize, separator: u8) -> Judged
     requires { ⌜ Stop separator (now s) i e ⌝ }
-    ensures { λ r. ⌜ r ≡ judgedOf (next separator (now (s .entry)) i) (good false 0 0) ⌝ }
+    ensures { λ r. ⌜ r ≡ judgedOf (cellEnd separator (now (s .entry)) i) (good false 0 0) ⌝ }
 {
     Judged {
         at: text_end(s, i, e, separator),
@@ -218,7 +220,7 @@ fn free(s: &[u8], i: usize, e: usize, separator: u8) -> Judged
 
 pub fn by_kind(s: &[u8], i: usize, e: usize, separator: u8, kind: u8) -> Judged
     requires { ⌜ Stop separator (now s) i e ⌝ }
-    ensures { λ r. ⌜ r ≡ judgedOf (next separator (now (s .entry)) i) (judgeKind (kindOf kind) (cellAt separator (now (s .entry)) i)) ⌝ }
+    ensures { λ r. ⌜ r ≡ judgedOf (cellEnd separator (now (s .entry)) i) (judgeKind (kindOf kind) (cellAt separator (now (s .entry)) i)) ⌝ }
 {
     if kind < 4 {
         ranged(decimal(s, i, e, separator), top(kind))

@@ -3,20 +3,21 @@ ghost use mathlib.Core.Path.{_≡_};
 ghost use mathlib.Core.Bool.{cond, _||_};
 ghost use Prim.Native.Nat.{_+_, _-_, _^_, _≤_, _<_};
 ghost use lib.Dec.{eqb};
-ghost use Rattle.text.specs.Cells.{next, cellAt};
+ghost use Rattle.text.specs.Cells.{cellEnd, cellAt};
 ghost use Rattle.text.specs.Spaces.{trim};
-ghost use Rattle.text.specs.Decimals.{blank, wrong, good, unsignedOf, decimalOf};
+ghost use Rattle.text.specs.Verdicts.{blank, wrong, good};
+ghost use Rattle.text.specs.Decimals.{unsignedOf, decimalOf};
 ghost use Rattle.text.specs.Judge.{unlessBlank, judgedOf};
-ghost use Rattle.text.specs.Scans.{Stop, body, closing};
+ghost use Rattle.text.specs.Inner.Scans.{Stop, body, closing};
 use crate::Judged;
-use crate::runs::digits;
-use crate::runs::spaces;
-use crate::runs::text_end;
+use crate::scans::digits;
+use crate::scans::spaces;
+use crate::scans::text_end;
 
 // A cell that is blank, and one that is not of its kind; what is left of it goes on at q.
 pub fn blank_cell(s: &[u8], q: usize, e: usize, separator: u8) -> Judged
     requires { ⌜ Stop separator (now s) q e ⌝ }
-    ensures { λ r. ⌜ r ≡ judgedOf (next separator (now (s .entry)) q) blank ⌝ }
+    ensures { λ r. ⌜ r ≡ judgedOf (cellEnd separator (now (s .entry)) q) blank ⌝ }
 {
     Judged {
         at: text_end(s, q, e, separator),
@@ -29,7 +30,7 @@ pub fn blank_cell(s: &[u8], q: usize, e: usize, separator: u8) -> Judged
 
 pub fn wrong_cell(s: &[u8], q: usize, e: usize, separator: u8) -> Judged
     requires { ⌜ Stop separator (now s) q e ⌝ }
-    ensures { λ r. ⌜ r ≡ judgedOf (next separator (now (s .entry)) q) wrong ⌝ }
+    ensures { λ r. ⌜ r ≡ judgedOf (cellEnd separator (now (s .entry)) q) wrong ⌝ }
 {
     Judged {
         at: text_end(s, q, e, separator),
@@ -51,7 +52,7 @@ pub fn close(
     decimals: u64,
 ) -> Judged
     requires { ⌜ Stop separator (now s) q e ⌝ }
-    ensures { λ r. ⌜ r ≡ judgedOf (next separator (now (s .entry)) q) (closing (good minus size decimals) (body separator (now (s .entry)) q)) ⌝ }
+    ensures { λ r. ⌜ r ≡ judgedOf (cellEnd separator (now (s .entry)) q) (closing (good minus size decimals) (body separator (now (s .entry)) q)) ⌝ }
 {
     let r = spaces(s, q, e, separator);
     let b = s[r];
@@ -86,7 +87,7 @@ fn power(n: usize) -> u64
 // The digits and the point, after the sign.
 fn unsigned(s: &[u8], p: usize, e: usize, separator: u8, minus: bool) -> Judged
     requires { ⌜ Stop separator (now s) p e ⌝ }
-    ensures { λ r. ⌜ r ≡ judgedOf (next separator (now (s .entry)) p) (unsignedOf minus (body separator (now (s .entry)) p)) ⌝ }
+    ensures { λ r. ⌜ r ≡ judgedOf (cellEnd separator (now (s .entry)) p) (unsignedOf minus (body separator (now (s .entry)) p)) ⌝ }
 {
     let w = digits(s, p, e, separator, p + 10, 0);
     let q = w.at;
@@ -122,7 +123,7 @@ fn after_sign(a: usize, e: usize, b: u8) -> usize
 
 pub fn decimal(s: &[u8], i: usize, e: usize, separator: u8) -> Judged
     requires { ⌜ Stop separator (now s) i e ⌝ }
-    ensures { λ r. ⌜ r ≡ judgedOf (next separator (now (s .entry)) i) (unlessBlank decimalOf (trim (cellAt separator (now (s .entry)) i))) ⌝ }
+    ensures { λ r. ⌜ r ≡ judgedOf (cellEnd separator (now (s .entry)) i) (unlessBlank decimalOf (trim (cellAt separator (now (s .entry)) i))) ⌝ }
 {
     let a = spaces(s, i, e, separator);
     let b = s[a];

@@ -7,7 +7,8 @@ ghost use Rattle.text.specs.Bytes.{equal};
 ghost use Rattle.text.specs.Names.{isName, parameterLength, beginsCtd};
 ghost use Rattle.text.specs.Catalogue.{names, kinds, kindIn};
 ghost use Rattle.text.specs.Judge.{judgedAt, wholeAt};
-ghost use Rattle.text.specs.Reading.{signed, readingAt};
+ghost use Rattle.text.specs.Verdicts.{signed};
+ghost use Rattle.text.specs.Reading.{readingAt};
 ghost use Rattle.text.specs.Rows.{cellsAt};
 
 mod catalogue;
@@ -20,7 +21,7 @@ mod names;
 mod readings;
 pub mod refusals;
 mod rows;
-mod runs;
+mod scans;
 mod spaces;
 
 // Where a search of a line ends.
@@ -238,7 +239,7 @@ pub fn kind_of<'a>(listed: &'a [u8], of: &'a [u8], name: &'a [u8]) -> u8
 pub fn judge_cells<'a>(s: &'a [u8], i: usize, e: usize, separator: u8, kinds: &'a [u8]) -> CellsRead
     ensures { λ r. ⌜ r ≡ cellsAt (now (kinds .entry)) separator (now (s .entry)) i e ⌝ }
 {
-    if runs::stops(s, i, e, separator) {
+    if scans::stops(s, i, e, separator) {
         rows::from_left(s, i, e, separator, kinds)
     } else {
         rows::no_cells(i)
@@ -265,7 +266,7 @@ pub fn whole(s: &[u8], i: usize, e: usize, separator: u8, most: usize) -> Judged
     ensures { λ r. ⌜ r ≡ wholeAt most separator (now (s .entry)) i e ⌝ }
 {
     if most <= 9 {
-        if runs::stops(s, i, e, separator) {
+        if scans::stops(s, i, e, separator) {
             return cells::whole_number(s, i, e, separator, most);
         }
     }

@@ -4,13 +4,13 @@ use native.Mathlib.Nat.{le-trans}
 use native.Mathlib.Omega.{arith}
 use lib.Seq.{slice}
 use borrow.Author.Needs.{needs}
-use Rattle.text.specs.Spaces.{back}
+use Rattle.text.specs.Spaces.{trimEnd}
 use Rattle.text.proofs.SpaceLaws.{back-stop, back-step, back-none, span-end}
 use Rattle.text.proofs.spaces.end_of.Statement.{statement}
 use Rattle.text.proofs.spaces.end_of.Tie as tie
 
 abbrev Inv-loop : tie.InvT-loop
-Inv-loop s a e j₀ j = (a ≤ j) × (j ≤ e) × (back (slice a e s) ≡ back (slice a j s))
+Inv-loop s a e j₀ j = (a ≤ j) × (j ≤ e) × (trimEnd (slice a e s) ≡ trimEnd (slice a j s))
 
 abbrev μ-loop : tie.MeasureT-loop
 μ-loop s a e j₀ j = j

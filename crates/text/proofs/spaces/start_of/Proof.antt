@@ -2,13 +2,13 @@ use Prim.Native.Nat.{_≤_, _-_}
 use mathlib.Core.Path.{_≡_, _∙_, refl}
 use lib.Seq.{slice}
 use borrow.Author.Needs.{needs}
-use Rattle.text.specs.Spaces.{lead}
+use Rattle.text.specs.Spaces.{trimFront}
 use Rattle.text.proofs.SpaceLaws.{lead-stop, lead-step, lead-none}
 use Rattle.text.proofs.spaces.start_of.Statement.{statement}
 use Rattle.text.proofs.spaces.start_of.Tie as tie
 
 abbrev Inv-loop : tie.InvT-loop
-Inv-loop s a e i₀ i = (a ≤ i) × (i ≤ e) × (lead (slice a e s) ≡ lead (slice i e s))
+Inv-loop s a e i₀ i = (a ≤ i) × (i ≤ e) × (trimFront (slice a e s) ≡ trimFront (slice i e s))
 
 abbrev μ-loop : tie.MeasureT-loop
 μ-loop s a e i₀ i = e - i

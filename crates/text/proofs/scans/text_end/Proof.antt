@@ -4,13 +4,13 @@ use mathlib.Core.Path.{_≡_, refl, sym, _∙_}
 use native.Mathlib.Omega.{arith}
 use borrow.Author.Needs.{needs}
 use borrow.Author.Tests.{eq-eqb, ne-eqb}
-use Rattle.text.specs.Cells.{next}
+use Rattle.text.specs.Cells.{cellEnd}
 use Rattle.text.proofs.CellLaws.{stop-moved, stop-short, next-in, next-end, end-feed}
-use Rattle.text.proofs.runs.text_end.Statement.{statement}
-use Rattle.text.proofs.runs.text_end.Tie as tie
+use Rattle.text.proofs.scans.text_end.Statement.{statement}
+use Rattle.text.proofs.scans.text_end.Tie as tie
 
 abbrev Inv-loop : tie.InvT-loop
-Inv-loop s i e separator p₀ p = (i ≤ p) × (p ≤ e) × (next separator s i ≡ next separator s p)
+Inv-loop s i e separator p₀ p = (i ≤ p) × (p ≤ e) × (cellEnd separator s i ≡ cellEnd separator s p)
 
 abbrev μ-loop : tie.MeasureT-loop
 μ-loop s i e separator p₀ p = e - p

@@ -1,4 +1,4 @@
--- The words of the contracts of the code's own scans; no promise of a public call cites them.
+-- The words of the contracts of the code's own scans (src/scans.rt), and what they leave of a cell; no promise of a public call cites them.
 use Prim.Native.Nat.{ℕ, _+_, _-_, _*_, _≤_, _<_}
 use mathlib.Core.Path.{_≡_}
 use mathlib.Core.Bool.{Bool, true, false, not, _||_}
@@ -7,8 +7,8 @@ use lib.ListN.{length, getD}
 use lib.Dec.{eqb}
 use Rattle.text.specs.Bytes.{isSpace, isDigit}
 use Rattle.text.specs.Cells.{cellAt, separates}
-use Rattle.text.specs.Spaces.{back}
-use Rattle.text.specs.Decimals.{Verdict, blank, wrong, outOfRange, good}
+use Rattle.text.specs.Spaces.{trimEnd}
+use Rattle.text.specs.Verdicts.{Verdict, wrong}
 use Rattle.text.specs.Judge.{keyByte}
 
 -- a scan from i stops at e, where the line feed stands; c parts cells
@@ -41,10 +41,6 @@ pub record Counted (s : List ℕ) (i e limit v0 r v : ℕ) : Type 0 where
   pub over : Written s i v0 r (r - i) v
   pub stops : r < limit → isDigit (getD s r 0) ≡ false
 
--- where a cell parted by c ends
-abbrev pub isEnd : ℕ → ℕ → Bool
-isEnd c x = eqb x c || eqb x 10
-
 -- a byte inside a key text's word
 abbrev pub wordByte : ℕ → ℕ → Bool
 wordByte c x = not (eqb x 44 || eqb x 32 || eqb x 47 || eqb x c || eqb x 10)
@@ -57,7 +53,7 @@ pub record Worded (c : ℕ) (s : List ℕ) (i e r : ℕ) : Type 0 where
 
 -- what is left of the cell from p on, without the spaces at its end
 unfoldable pub body : ℕ → List ℕ → ℕ → List ℕ
-body c s p = back (cellAt c s p)
+body c s p = trimEnd (cellAt c s p)
 
 -- nothing may be left
 abbrev pub closing : Verdict → List ℕ → Verdict

@@ -2,8 +2,8 @@
 ghost use mathlib.Core.Path.{_≡_};
 ghost use Prim.Native.Nat.{_+_, _^_, _≤_, _<_};
 ghost use Rattle.text.specs.Judge.{stopsAt};
-ghost use Rattle.text.specs.Cells.{next};
-ghost use Rattle.text.specs.Scans.{Stop, Spaced, Counted, Worded};
+ghost use Rattle.text.specs.Cells.{cellEnd};
+ghost use Rattle.text.specs.Inner.Scans.{Stop, Spaced, Counted, Worded};
 
 // The digits passed end at `at` and write v.
 pub struct DigitRun {
@@ -59,7 +59,7 @@ pub fn digits(s: &[u8], i: usize, e: usize, separator: u8, limit: usize, v0: u64
 // Where the cell ends that goes on at i.
 pub fn text_end(s: &[u8], i: usize, e: usize, separator: u8) -> usize
     requires { ⌜ Stop separator (now s) i e ⌝ }
-    ensures { λ r. ⌜ (r ≡ next separator (now (s .entry)) i) × (r ≤ e) ⌝ }
+    ensures { λ r. ⌜ (r ≡ cellEnd separator (now (s .entry)) i) × (r ≤ e) ⌝ }
 {
     let mut p = i;
     while s[p] != separator {
