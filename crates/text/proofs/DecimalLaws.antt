@@ -284,3 +284,7 @@ decimal-small [] = tt
 decimal-small (x ∷ xs) =
     small-either 999999999999999 6 (eqb x 45) _ _ (unsigned-small true xs)
     (small-either 999999999999999 6 (eqb x 43) _ _ (unsigned-small false xs) (unsigned-small false (x ∷ xs)))
+
+-- no decimal is smaller than a millionth
+pub place-past : (n : ℕ) → 6 ≤ n → _≡_ {A = ℕ} 1 (10 ^ (6 - n))
+place-past n h = let z : 6 - n ≡ 0 = omega arith in rw z

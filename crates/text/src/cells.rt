@@ -12,14 +12,24 @@ ghost use Rattle.text.specs.Inner.Cells.{topOf, rangedOf};
 ghost use Rattle.text.specs.Inner.Scans.{Stop, body, closing};
 use crate::Judged;
 use crate::dates::is_date;
+use crate::decimals::TOO_LARGE;
 use crate::decimals::blank_cell;
 use crate::decimals::close;
 use crate::decimals::decimal;
 use crate::decimals::wrong_cell;
+use crate::kinds;
+use crate::refusals;
 use crate::scans::digits;
 use crate::scans::spaces;
 use crate::scans::text_end;
 use crate::scans::word_end;
+
+// The largest sizes that are in range: 90 and 180 degrees in millionths, and cast 999.
+const MOST_LATITUDE: u64 = 90000000;
+
+const MOST_LONGITUDE: u64 = 180000000;
+
+const MOST_CASTNO: u64 = 999;
 
 // What stands at i where no cell goes on.
 pub fn no_cell(i: usize) -> Judged
@@ -27,7 +37,7 @@ pub fn no_cell(i: usize) -> Judged
 {
     Judged {
         at: i,
-        number: 16,
+        number: refusals::NOT_OF_ITS_KIND,
         minus: false,
         size: 0,
         decimals: 0,
@@ -39,7 +49,7 @@ fn out_of_range(at: usize) -> Judged
 {
     Judged {
         at,
-        number: 18,
+        number: refusals::OUT_OF_RANGE,
         minus: false,
         size: 0,
         decimals: 0,
@@ -60,12 +70,12 @@ fn ranged(c: Judged, top: u64) -> Judged
 fn top(kind: u8) -> u64
     ensures { λ r. ⌜ r ≡ topOf kind ⌝ }
 {
-    if kind == 1 {
-        90000000
-    } else if kind == 2 {
-        180000000
+    if kind == kinds::LATITUDE {
+        MOST_LATITUDE
+    } else if kind == kinds::LONGITUDE {
+        MOST_LONGITUDE
     } else {
-        1000000000000000
+        TOO_LARGE
     }
 }
 
@@ -75,15 +85,15 @@ fn flag(s: &[u8], i: usize, e: usize, separator: u8, ctd: bool) -> Judged
 {
     let a = spaces(s, i, e, separator);
     let b = s[a];
-    if (b == separator) | (b == 10) {
+    if (b == separator) | (b == b'\n') {
         blank_cell(s, a, e, separator)
-    } else if (b < 48) | (57 < b) {
+    } else if (b < b'0') | (b'9' < b) {
         wrong_cell(s, a, e, separator)
     } else {
-        let c = close(s, a + 1, e, separator, false, (b - 48) as u64, 0);
+        let c = close(s, a + 1, e, separator, false, (b - b'0') as u64, 0);
         if c.number != 0 {
             c
-        } else if (b == 48) | (ctd & (b == 56)) {
+        } else if (b == b'0') | (ctd & (b == b'8')) {
             out_of_range(c.at)
         } else {
             c
@@ -97,7 +107,7 @@ fn key(s: &[u8], i: usize, e: usize, separator: u8) -> Judged
 {
     let a = spaces(s, i, e, separator);
     let b = s[a];
-    if (b == separator) | (b == 10) {
+    if (b == separator) | (b == b'\n') {
         blank_cell(s, a, e, separator)
     } else {
         close(s, word_end(s, a, e, separator), e, separator, false, 0, 0)
@@ -110,7 +120,7 @@ pub fn whole_number(s: &[u8], i: usize, e: usize, separator: u8, most: usize) ->
 {
     let a = spaces(s, i, e, separator);
     let b = s[a];
-    if (b == separator) | (b == 10) {
+    if (b == separator) | (b == b'\n') {
         blank_cell(s, a, e, separator)
     } else {
         let w = digits(s, a, e, separator, a + 10, 0);
@@ -131,7 +141,7 @@ fn date(s: &[u8], i: usize, e: usize, separator: u8) -> Judged
 {
     let a = spaces(s, i, e, separator);
     let b = s[a];
-    if (b == separator) | (b == 10) {
+    if (b == separator) | (b == b'\n') {
         blank_cell(s, a, e, separator)
     } else {
         let w = digits(s, a, e, separator, a + 9, 0);
@@ -157,11 +167,11 @@ fn nines(s: &[u8], p: usize, e: usize, separator: u8) -> Judged
     requires { ⌜ Stop separator (now s) p e ⌝ }
     ensures { λ r. ⌜ r ≡ judgedOf (cellEnd separator (now (s .entry)) p) (timeOf (45 ∷ body separator (now (s .entry)) p)) ⌝ }
 {
-    if s[p] != 57 {
+    if s[p] != b'9' {
         wrong_cell(s, p, e, separator)
-    } else if s[p + 1] != 57 {
+    } else if s[p + 1] != b'9' {
         wrong_cell(s, p, e, separator)
-    } else if s[p + 2] != 57 {
+    } else if s[p + 2] != b'9' {
         wrong_cell(s, p, e, separator)
     } else {
         close(s, p + 3, e, separator, true, 999, 0)
@@ -196,9 +206,9 @@ fn time(s: &[u8], i: usize, e: usize, separator: u8) -> Judged
 {
     let a = spaces(s, i, e, separator);
     let b = s[a];
-    if (b == separator) | (b == 10) {
+    if (b == separator) | (b == b'\n') {
         blank_cell(s, a, e, separator)
-    } else if b == 45 {
+    } else if b == b'-' {
         nines(s, a + 1, e, separator)
     } else {
         clock(s, a, e, separator)
@@ -218,21 +228,22 @@ fn free(s: &[u8], i: usize, e: usize, separator: u8) -> Judged
     }
 }
 
+// The kinds by their numbers: before FLAG the decimals, before EXPOCODE the flags, before CASTNO the key texts.
 pub fn by_kind(s: &[u8], i: usize, e: usize, separator: u8, kind: u8) -> Judged
     requires { ⌜ Stop separator (now s) i e ⌝ }
     ensures { λ r. ⌜ r ≡ judgedOf (cellEnd separator (now (s .entry)) i) (judgeKind (kindOf kind) (cellAt separator (now (s .entry)) i)) ⌝ }
 {
-    if kind < 4 {
+    if kind < kinds::FLAG {
         ranged(decimal(s, i, e, separator), top(kind))
-    } else if kind < 6 {
-        flag(s, i, e, separator, kind == 5)
-    } else if kind < 8 {
+    } else if kind < kinds::EXPOCODE {
+        flag(s, i, e, separator, kind == kinds::CTD_FLAG)
+    } else if kind < kinds::CASTNO {
         key(s, i, e, separator)
-    } else if kind == 8 {
-        ranged(whole_number(s, i, e, separator, 9), 999)
-    } else if kind == 9 {
+    } else if kind == kinds::CASTNO {
+        ranged(whole_number(s, i, e, separator, 9), MOST_CASTNO)
+    } else if kind == kinds::DATE {
         date(s, i, e, separator)
-    } else if kind == 10 {
+    } else if kind == kinds::TIME {
         time(s, i, e, separator)
     } else {
         free(s, i, e, separator)

@@ -10,9 +10,14 @@ ghost use Rattle.text.specs.Decimals.{unsignedOf, decimalOf};
 ghost use Rattle.text.specs.Judge.{unlessBlank, judgedOf};
 ghost use Rattle.text.specs.Inner.Scans.{Stop, body, closing};
 use crate::Judged;
+use crate::last_place;
+use crate::refusals;
 use crate::scans::digits;
 use crate::scans::spaces;
 use crate::scans::text_end;
+
+// Every size of a decimal is below it: 10^15 millionths.
+pub const TOO_LARGE: u64 = 1000000000000000;
 
 // A cell that is blank, and one that is not of its kind; what is left of it goes on at q.
 pub fn blank_cell(s: &[u8], q: usize, e: usize, separator: u8) -> Judged
@@ -21,7 +26,7 @@ pub fn blank_cell(s: &[u8], q: usize, e: usize, separator: u8) -> Judged
 {
     Judged {
         at: text_end(s, q, e, separator),
-        number: 17,
+        number: refusals::BLANK,
         minus: false,
         size: 0,
         decimals: 0,
@@ -34,7 +39,7 @@ pub fn wrong_cell(s: &[u8], q: usize, e: usize, separator: u8) -> Judged
 {
     Judged {
         at: text_end(s, q, e, separator),
-        number: 16,
+        number: refusals::NOT_OF_ITS_KIND,
         minus: false,
         size: 0,
         decimals: 0,
@@ -56,7 +61,7 @@ pub fn close(
 {
     let r = spaces(s, q, e, separator);
     let b = s[r];
-    if (b == separator) | (b == 10) {
+    if (b == separator) | (b == b'\n') {
         Judged {
             at: r,
             number: 0,
@@ -66,21 +71,6 @@ pub fn close(
         }
     } else {
         wrong_cell(s, r, e, separator)
-    }
-}
-
-fn power(n: usize) -> u64
-    requires { ⌜ n ≤ 6 ⌝ }
-    ensures { λ r. ⌜ r ≡ 10 ^ (6 - n) ⌝ }
-{
-    match n {
-        0 => 1000000,
-        1 => 100000,
-        2 => 10000,
-        3 => 1000,
-        4 => 100,
-        5 => 10,
-        _ => 1,
     }
 }
 
@@ -94,7 +84,7 @@ fn unsigned(s: &[u8], p: usize, e: usize, separator: u8, minus: bool) -> Judged
     let v = w.v;
     if 9 < q - p {
         wrong_cell(s, q, e, separator)
-    } else if s[q] != 46 {
+    } else if s[q] != b'.' {
         if q == p {
             wrong_cell(s, q, e, separator)
         } else {
@@ -109,7 +99,15 @@ fn unsigned(s: &[u8], p: usize, e: usize, separator: u8, minus: bool) -> Judged
         } else if r - p == 1 {
             wrong_cell(s, r, e, separator)
         } else {
-            close(s, r, e, separator, minus, f.v * power(after), after as u64)
+            close(
+                s,
+                r,
+                e,
+                separator,
+                minus,
+                f.v * last_place(after as u64),
+                after as u64,
+            )
         }
     }
 }
@@ -118,7 +116,7 @@ fn after_sign(a: usize, e: usize, b: u8) -> usize
     requires { ⌜ a < e ⌝ }
     ensures { λ r. ⌜ (r ≡ cond (eqb b 45 || eqb b 43) (a + 1) a) × (r ≤ a + 1) ⌝ }
 {
-    if (b == 45) | (b == 43) { a + 1 } else { a }
+    if (b == b'-') | (b == b'+') { a + 1 } else { a }
 }
 
 pub fn decimal(s: &[u8], i: usize, e: usize, separator: u8) -> Judged
@@ -127,9 +125,9 @@ pub fn decimal(s: &[u8], i: usize, e: usize, separator: u8) -> Judged
 {
     let a = spaces(s, i, e, separator);
     let b = s[a];
-    if (b == separator) | (b == 10) {
+    if (b == separator) | (b == b'\n') {
         blank_cell(s, a, e, separator)
     } else {
-        unsigned(s, after_sign(a, e, b), e, separator, b == 45)
+        unsigned(s, after_sign(a, e, b), e, separator, b == b'-')
     }
 }

@@ -13,7 +13,7 @@ pub fn end_of(s: &[u8], a: usize, e: usize) -> usize
     let mut j = e;
     while a < j {
         let k = j - 1;
-        if s[k] != 32 {
+        if s[k] != b' ' {
             return j;
         }
         j = k;
@@ -28,7 +28,7 @@ pub fn start_of(s: &[u8], a: usize, e: usize) -> usize
 {
     let mut i = a;
     while i < e {
-        if s[i] != 32 {
+        if s[i] != b' ' {
             return i;
         }
         i += 1;
