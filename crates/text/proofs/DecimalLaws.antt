@@ -18,8 +18,8 @@ use Rattle.text.specs.Verdicts.{Verdict, blank, wrong, outOfRange, good}
 use Rattle.text.specs.Decimals.{front, fraction, settle, unsignedOf, decimalOf}
 use Rattle.text.specs.Judge.{unlessBlank, judgedOf}
 use Rattle.text.specs.Inner.Scans.{Stop, Written, Spaced, Counted, body, closing}
-use Rattle.text.proofs.CellLaws.{isEnd, both-true, inside-cell, next-in}
-use Rattle.text.proofs.ScanLaws.{body-solid, body-digit, body-first, next-digits, judged-solid, digit-range, numeral-scaled}
+use Rattle.text.proofs.CellLaws.{isEnd, both-true, inside-cell, cellEnd-in}
+use Rattle.text.proofs.ScanLaws.{body-solid, body-digit, body-first, cellEnd-digits, judged-solid, digit-range, numeral-scaled}
 
 -- The number v so far, b digits before the point and a after it; the flag says that the point was seen.
 unfoldable dec : Bool → ℕ → ℕ → ℕ → Bool → List ℕ → Verdict
@@ -151,7 +151,7 @@ module _ {c : ℕ} {s : List ℕ} {p e q v : ℕ} (t : Stop c s p e) (r : Counte
   here = dec-plain m (body c s p) ∙ before-digits t m 0 (r .over) ∙ rw (zero-add (q - p))
 
   pub unsigned-wide : 9 < q - p → x ≡ judgedOf (cellEnd c s q) wrong → x ≡ judgedOf (cellEnd c s p) (unsignedOf m (body c s p))
-  unsigned-wide w h = rw (here, dec-wide m (body c s q) v (q - p) 0 w, next-digits t (r .over)) h
+  unsigned-wide w h = rw (here, dec-wide m (body c s q) v (q - p) 0 w, cellEnd-digits t (r .over)) h
 
   module _ (n : getD s q 0 ≡ 46 → ⊥) (w : q - p ≤ 9) where
     whole : unsignedOf m (body c s p) ≡ closing (settle m v (q - p) 0) (body c s q)
@@ -159,11 +159,11 @@ module _ {c : ℕ} {s : List ℕ} {p e q v : ℕ} (t : Stop c s p e) (r : Counte
 
     pub unsigned-none : q ≡ p → x ≡ judgedOf (cellEnd c s q) wrong → x ≡ judgedOf (cellEnd c s p) (unsignedOf m (body c s p))
     unsigned-none z h =
-        rw (whole, settle-none m v (q - p) 0 (omega arith) refl, closing-wrong (body c s q), next-digits t (r .over)) h
+        rw (whole, settle-none m v (q - p) 0 (omega arith) refl, closing-wrong (body c s q), cellEnd-digits t (r .over)) h
 
     pub unsigned-whole : (q ≡ p → ⊥) → x ≡ judgedOf (cellEnd c s q) (closing (good m (v * 1000000) 0) (body c s q))
         → x ≡ judgedOf (cellEnd c s p) (unsignedOf m (body c s p))
-    unsigned-whole z h = rw (whole, settle-good m v (q - p) 0 w (omega arith) (omega arith), next-digits t (r .over)) h
+    unsigned-whole z h = rw (whole, settle-good m v (q - p) 0 w (omega arith) (omega arith), cellEnd-digits t (r .over)) h
 
   module _ {f w : ℕ} (y : getD s q 0 ≡ 46) (g : Counted s (q + 1) e (q + 8) v f w) where
     inner : isEnd c (getD s q 0) ≡ false
@@ -176,7 +176,7 @@ module _ {c : ℕ} {s : List ℕ} {p e q v : ℕ} (t : Stop c s p e) (r : Counte
         ∙ rw (body-solid c s q (omega arith) inner (rw y)) (rw y (after-digits t m (q - p) 0 (g .over) ∙ rw (zero-add (f - (q + 1)))))
 
     past : cellEnd c s p ≡ cellEnd c s f
-    past = next-digits t (r .over) ∙ next-in s q (omega arith) c inner ∙ next-digits t (g .over)
+    past = cellEnd-digits t (r .over) ∙ cellEnd-in s q (omega arith) c inner ∙ cellEnd-digits t (g .over)
 
     pub unsigned-fine : 6 < f - (q + 1) → x ≡ judgedOf (cellEnd c s f) wrong → x ≡ judgedOf (cellEnd c s p) (unsignedOf m (body c s p))
     unsigned-fine u h = rw (there, dec-fine m (body c s f) w (q - p) (f - (q + 1)) u, past) h
@@ -205,7 +205,7 @@ module _ {c : ℕ} {s : List ℕ} {i e a : ℕ} (t : Stop c s i e) (r : Spaced s
   signed false false p h = rw (h, body-solid c s a (omega arith) d (r .stops))
 
   after : (z : Bool) (p : ℕ) → p ≡ cond z (a + 1) a → cellEnd c s a ≡ cellEnd c s p
-  after true p h = rw h (next-in s a (omega arith) c d)
+  after true p h = rw h (cellEnd-in s a (omega arith) c d)
   after false p h = rw h
 
   pub decimal-signed : (p : ℕ) → p ≡ cond (eqb (getD s a 0) 45 || eqb (getD s a 0) 43) (a + 1) a

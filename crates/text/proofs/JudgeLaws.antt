@@ -228,16 +228,16 @@ module _ {c : ℕ} {s : List ℕ} {i e : ℕ} (t : Stop c s i e) where
   unfolding judgedAt
   judged-stop k = rw (stop-holds t)
 
-  pub judged-next : (k : ℕ) → judgedAt k c s i e .at ≡ cellEnd c s i
-  judged-next k = rw (judged-stop k) (judged-at (cellEnd c s i) (judge (kindOf k) (cellAt c s i)))
+  pub judged-end : (k : ℕ) → judgedAt k c s i e .at ≡ cellEnd c s i
+  judged-end k = rw (judged-stop k) (judged-at (cellEnd c s i) (judge (kindOf k) (cellAt c s i)))
 
   pub whole-stop : (most : ℕ) → most ≤ 9
       → wholeAt most c s i e ≡ judgedOf (cellEnd c s i) (unlessBlank (wholeOf most) (trim (cellAt c s i)))
   unfolding wholeAt
   whole-stop most h = rw (le-leb most 9 h, stop-holds t)
 
-  pub whole-next : (most : ℕ) → most ≤ 9 → wholeAt most c s i e .at ≡ cellEnd c s i
-  whole-next most h = rw (whole-stop most h) (judged-at (cellEnd c s i) (unlessBlank (wholeOf most) (trim (cellAt c s i))))
+  pub whole-end : (most : ℕ) → most ≤ 9 → wholeAt most c s i e .at ≡ cellEnd c s i
+  whole-end most h = rw (whole-stop most h) (judged-at (cellEnd c s i) (unlessBlank (wholeOf most) (trim (cellAt c s i))))
 
 sizes-either : (top i : ℕ) (z : Bool) (x : Judged) → (x .size ≤ top) × (x .decimals ≤ 6)
     → (cond z x (judgedOf i wrong) .size ≤ top) × (cond z x (judgedOf i wrong) .decimals ≤ 6)

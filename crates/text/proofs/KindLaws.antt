@@ -17,8 +17,8 @@ use Rattle.text.specs.Verdicts.{Verdict, wrong, outOfRange, good}
 use Rattle.text.specs.Dates.{isDate}
 use Rattle.text.specs.Judge.{wholeOf, inSet, inFlags, keyByte, keyTextOf, dateOf, clockOf, timeOf, judgedOf}
 use Rattle.text.specs.Inner.Scans.{Stop, Written, Counted, Worded, wordByte, body, closing}
-use Rattle.text.proofs.CellLaws.{isEnd, both-true, inside-cell, stop-moved, stop-inside, next-in}
-use Rattle.text.proofs.ScanLaws.{digit-range, digit-low, digit-high, digit-yes, scan-undo, word-inside, word-outside, body-end, body-solid, body-digit, body-first, next-digits}
+use Rattle.text.proofs.CellLaws.{isEnd, both-true, inside-cell, stop-moved, stop-inside, cellEnd-in}
+use Rattle.text.proofs.ScanLaws.{digit-range, digit-low, digit-high, digit-yes, scan-undo, word-inside, word-outside, body-end, body-solid, body-digit, body-first, cellEnd-digits}
 use Rattle.text.proofs.DecimalLaws.{closing-wrong}
 
 -- ---- a text of digits, by its length and by what it writes
@@ -79,7 +79,7 @@ module _ {c : ℕ} {s : List ℕ} {i e q v : ℕ} (t : Stop c s i e) (r : Counte
   pub whole-wide : most < q - i → x ≡ judgedOf (cellEnd c s q) wrong → x ≡ judgedOf (cellEnd c s i) (wholeOf most (body c s i))
   unfolding wholeOf
   whole-wide w h =
-      rw (sized-over t r (λ n. leb n most) (λ n. good false n 0) (λ k l. lt-leb k most (omega arith)), next-digits t (r .over)) h
+      rw (sized-over t r (λ n. leb n most) (λ n. good false n 0) (λ k l. lt-leb k most (omega arith)), cellEnd-digits t (r .over)) h
 
   whole-run : most ≤ 9 → q - i ≤ most → wholeOf most (body c s i) ≡ closing (good false v 0) (body c s q)
   unfolding wholeOf
@@ -95,7 +95,7 @@ module _ {c : ℕ} {s : List ℕ} {i e q v : ℕ} (t : Stop c s i e) (r : Counte
 
   pub whole-good : most ≤ 9 → q - i ≤ most → x ≡ judgedOf (cellEnd c s q) (closing (good false v 0) (body c s q))
       → x ≡ judgedOf (cellEnd c s i) (wholeOf most (body c s i))
-  whole-good b w h = rw (whole-run b w, next-digits t (r .over)) h
+  whole-good b w h = rw (whole-run b w, cellEnd-digits t (r .over)) h
 
 -- ---- flags
 pub set-parts : (ctd : Bool) (v : ℕ) → inSet ctd v ≡ true → (1 ≤ v) × (v ≤ 9) × (ctd ≡ true → v ≡ 8 → ⊥)
@@ -171,7 +171,7 @@ module _ {c : ℕ} {s : List ℕ} {a e : ℕ} (t : Stop c s a e) (ctd : Bool) wh
     unfolding within
     flagged =
         let n = digit-within (getD s a 0) d in
-        rw (body-digit t a (omega arith) n, flag-one (getD s a 0) ctd (body c s (a + 1)) n, next-digits t (Written.more {v = 0} Written.still (omega arith) n))
+        rw (body-digit t a (omega arith) n, flag-one (getD s a 0) ctd (body c s (a + 1)) n, cellEnd-digits t (Written.more {v = 0} Written.still (omega arith) n))
 
     pub flag-refused : (y .number ≡ 0 → ⊥) → y ≡ judgedOf (cellEnd c s a) (inFlags ctd (wholeOf 1 (body c s a)))
     flag-refused z = range-refused _ (body c s (a + 1)) _ within y h z ∙ flagged
@@ -187,9 +187,9 @@ module _ {c : ℕ} {s : List ℕ} {a e : ℕ} (t : Stop c s a e) (ctd : Bool) wh
 
 -- ---- key texts
 module _ {c : ℕ} {s : List ℕ} {i e q : ℕ} (t : Stop c s i e) (r : Worded c s i e q) (x : Judged) where
-  next-word : cellEnd c s i ≡ cellEnd c s q
-  next-word =
-      scan-undo (λ (p : ℕ). cellEnd c s p ≡ cellEnd c s q) (λ p l d x. next-in s p l c (word-inside c (getD s p 0) d .0) ∙ x) (r .over) refl
+  cellEnd-word : cellEnd c s i ≡ cellEnd c s q
+  cellEnd-word =
+      scan-undo (λ (p : ℕ). cellEnd c s p ≡ cellEnd c s q) (λ p l d x. cellEnd-in s p l c (word-inside c (getD s p 0) d .0) ∙ x) (r .over) refl
 
   every-word : every keyByte (body c s i) ≡ every keyByte (body c s q)
   unfolding every
@@ -213,7 +213,7 @@ module _ {c : ℕ} {s : List ℕ} {i e q : ℕ} (t : Stop c s i e) (r : Worded c
           (body-first c s q (omega arith))
 
   pub key-word : x ≡ judgedOf (cellEnd c s q) (closing (good false 0 0) (body c s q)) → x ≡ judgedOf (cellEnd c s i) (keyTextOf (body c s i))
-  key-word h = rw (key-run, next-word) h
+  key-word h = rw (key-run, cellEnd-word) h
 
 -- ---- dates and times: so many digits, and a range
 module _ {c : ℕ} {s : List ℕ} {i e k q v : ℕ} (t : Stop c s i e) (r : Counted s i e (i + (k + 1)) 0 q v) (f : ℕ → Verdict) where
@@ -237,12 +237,12 @@ inYear n = cond (isDate n) (good false n 0) outOfRange
 module _ {c : ℕ} {s : List ℕ} {i e q v : ℕ} (t : Stop c s i e) (r : Counted s i e (i + 9) 0 q v) where
   pub date-other : (x : Judged) → (q - i ≡ 8 → ⊥) → x ≡ judgedOf (cellEnd c s q) wrong → x ≡ judgedOf (cellEnd c s i) (dateOf (body c s i))
   unfolding dateOf
-  date-other x n h = rw (fixed-other {k = 8} t r inYear n, next-digits t (r .over)) h
+  date-other x n h = rw (fixed-other {k = 8} t r inYear n, cellEnd-digits t (r .over)) h
 
   module _ (n : q - i ≡ 8) (y : Judged) (h : y ≡ judgedOf (cellEnd c s q) (closing (good false v 0) (body c s q))) where
     dated : judgedOf (cellEnd c s q) (closing (inYear v) (body c s q)) ≡ judgedOf (cellEnd c s i) (dateOf (body c s i))
     unfolding dateOf
-    dated = rw (fixed-run {k = 8} t r inYear n, next-digits t (r .over))
+    dated = rw (fixed-run {k = 8} t r inYear n, cellEnd-digits t (r .over))
 
     pub date-refused : (y .number ≡ 0 → ⊥) → y ≡ judgedOf (cellEnd c s i) (dateOf (body c s i))
     date-refused z = range-refused _ (body c s q) v (inYear v) y h z ∙ dated
@@ -259,12 +259,12 @@ inDay n = cond (leb (n / 100) 23 && leb (n % 100) 59) (good false n 0) outOfRang
 module _ {c : ℕ} {s : List ℕ} {i e q v : ℕ} (t : Stop c s i e) (r : Counted s i e (i + 5) 0 q v) where
   pub clock-other : (x : Judged) → (q - i ≡ 4 → ⊥) → x ≡ judgedOf (cellEnd c s q) wrong → x ≡ judgedOf (cellEnd c s i) (clockOf (body c s i))
   unfolding clockOf
-  clock-other x n h = rw (fixed-other {k = 4} t r inDay n, next-digits t (r .over)) h
+  clock-other x n h = rw (fixed-other {k = 4} t r inDay n, cellEnd-digits t (r .over)) h
 
   module _ (n : q - i ≡ 4) (y : Judged) (h : y ≡ judgedOf (cellEnd c s q) (closing (good false v 0) (body c s q))) where
     clocked : judgedOf (cellEnd c s q) (closing (inDay v) (body c s q)) ≡ judgedOf (cellEnd c s i) (clockOf (body c s i))
     unfolding clockOf
-    clocked = rw (fixed-run {k = 4} t r inDay n, next-digits t (r .over))
+    clocked = rw (fixed-run {k = 4} t r inDay n, cellEnd-digits t (r .over))
 
     pub clock-refused : (y .number ≡ 0 → ⊥) → y ≡ judgedOf (cellEnd c s i) (clockOf (body c s i))
     clock-refused z = range-refused _ (body c s q) v (inDay v) y h z ∙ clocked
@@ -310,7 +310,7 @@ module _ {c : ℕ} {s : List ℕ} {p e : ℕ} (t : Stop c s p e) where
   nine-next h = stop-moved t (omega (arith, stop-inside t (nine-end t [] h)))
 
   nine-skip : getD s p 0 ≡ 57 → cellEnd c s p ≡ cellEnd c s (p + 1)
-  nine-skip h = next-in s p (omega arith) c (nine-end t [] h)
+  nine-skip h = cellEnd-in s p (omega arith) c (nine-end t [] h)
 
 module _ {c : ℕ} {s : List ℕ} {p e : ℕ} (t : Stop c s p e) where
   pub nines-two : getD s p 0 ≡ 57 → getD s (p + 1) 0 ≡ 57 → Stop c s (p + 2) e
@@ -352,7 +352,7 @@ module _ {c : ℕ} {s : List ℕ} {p e : ℕ} (t : Stop c s p e) where
   -- ---- a time of day, or -999
   module _ (x : Judged) (d : isEnd c (getD s p 0) ≡ false) where
     pub time-minus-sign : getD s p 0 ≡ 45 → x ≡ judgedOf (cellEnd c s (p + 1)) (timeOf (45 ∷ body c s (p + 1))) → x ≡ judgedOf (cellEnd c s p) (timeOf (body c s p))
-    time-minus-sign m h = rw (body-solid c s p (omega arith) d (rw m), next-in s p (omega arith) c d) (rw m h)
+    time-minus-sign m h = rw (body-solid c s p (omega arith) d (rw m), cellEnd-in s p (omega arith) c d) (rw m h)
 
     pub time-of-day : isSpace (getD s p 0) ≡ false → (getD s p 0 ≡ 45 → ⊥) → x ≡ judgedOf (cellEnd c s p) (clockOf (body c s p)) → x ≡ judgedOf (cellEnd c s p) (timeOf (body c s p))
     time-of-day n m h =

@@ -19,7 +19,7 @@ use Rattle.text.specs.Judge.{judge, judgedOf, stopsAt, judgedAt}
 use Rattle.text.specs.Rows.{missingIn, noted, noKeys, endedAt, noCells, isLast, cellsFrom, cellsAt}
 use Rattle.text.specs.Inner.Rows.{share, keysIn}
 use Rattle.text.specs.Inner.Scans.{Stop}
-use Rattle.text.proofs.CellLaws.{next-parts, pieces-last, pieces-more, stop-holds}
+use Rattle.text.proofs.CellLaws.{cellEnd-parts, pieces-last, pieces-more, stop-holds}
 use Rattle.text.proofs.JudgeLaws.{judged-number, judged-at, judged-good}
 
 -- ---- the keys as five numbers
@@ -178,7 +178,7 @@ module _ (i : ℕ) (kinds s : List ℕ) (c : ℕ) where
       pub left-on : (getD s (j .at) 0 ≡ 10 → ⊥) → (k + 1 ≡ length kinds → ⊥) → left at k m w ≡ left (j .at + 1) (k + 1) m' w'
       left-on f n =
           let fn : getD s (cellEnd c s at) 0 ≡ 10 → ⊥ = λ z. f (subst (λ (q : ℕ). getD s q 0 ≡ 10) (sym ends-at) z) in
-          let p : getD s (cellEnd c s at) 0 ≡ c = next-parts t fn in
+          let p : getD s (cellEnd c s at) 0 ≡ c = cellEnd-parts t fn in
           let more : pieces c (lineAt s at) ≡ cellAt c s at ∷ pieces c (lineAt s (cellEnd c s at + 1)) = pieces-more t (λ z. fn (p ∙ z)) p in
           ap (λ (x : List ℕ). cellsFrom i at k m w x (pieces c (lineAt s at))) kinds-on
           ∙ ap (cellsFrom i at k m w (getD kinds k 0 ∷ drop (k + 1) kinds)) more

@@ -12,9 +12,35 @@ abbrev pub bytes : String → List ℕ
 bytes Text.[] = []
 bytes (Text._∷_ c s) = code c ∷ bytes s
 
-abbrev pub isSpace : ℕ → Bool
-isSpace x = eqb x 32
+-- the bytes that the rules name
+abbrev pub tab : ℕ
+tab = 0x09
 
+abbrev pub lineFeed : ℕ
+lineFeed = 0x0a
+
+abbrev pub space : ℕ
+space = 0x20
+
+abbrev pub plus : ℕ
+plus = 43
+
+abbrev pub comma : ℕ
+comma = 44
+
+abbrev pub hyphen : ℕ
+hyphen = 45
+
+abbrev pub point : ℕ
+point = 46
+
+abbrev pub slash : ℕ
+slash = 47
+
+abbrev pub isSpace : ℕ → Bool
+isSpace x = eqb x space
+
+-- 0 to 9
 abbrev pub isDigit : ℕ → Bool
 isDigit x = leb 48 x && leb x 57
 

@@ -15,9 +15,11 @@ pub record Listed : Type 0 where
   pub name : List ℕ
   pub kind : ℕ
 
+-- the names of a kind
 abbrev pub under : Kind → List String → List Listed
 under k ts = map (λ (t : String). record { name = bytes t; kind = codeOf k }) ts
 
+-- the 48 names
 unfoldable pub listed : List Listed
 listed =
     under free ("BTLNBR" ∷ "SAMPNO" ∷ "SECT" ∷ "SECT_ID" ∷ [])
@@ -53,6 +55,7 @@ unfoldable pub ordered : List Listed → List Listed
 ordered [] = []
 ordered (x ∷ xs) = insert x (ordered xs)
 
+-- the padded names one after the other
 unfoldable pub flat : List Listed → List ℕ
 flat [] = []
 flat (x ∷ xs) = padded (x .name) ++ flat xs
@@ -73,6 +76,7 @@ unfoldable pub searchFrom : List ℕ → List ℕ → ℕ → ℕ → Found
 searchFrom t name zero k = Nowhere
 searchFrom t name (suc n) k = cond (equal (entryAt t k) (padded name)) (At k) (searchFrom t name n (suc k))
 
+-- where a table has the name
 unfoldable pub lookUp : List ℕ → List ℕ → Found
 lookUp t name = searchFrom t name (length t / 16) 0
 

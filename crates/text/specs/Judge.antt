@@ -5,7 +5,7 @@ use mathlib.Core.Bool.{Bool, true, false, cond, not, _&&_, _||_}
 use lib.ListN.{length, getD}
 use lib.Dec.{leb, ltb, eqb}
 use Rattle.text.specs.declared.Judged.{Judged}
-use Rattle.text.specs.Bytes.{bytes, isDigit, every, equal, numeral}
+use Rattle.text.specs.Bytes.{lineFeed, space, comma, slash, bytes, isDigit, every, equal, numeral}
 use Rattle.text.specs.Cells.{cellAt, cellEnd, separates}
 use Rattle.text.specs.Spaces.{trim}
 use Rattle.text.specs.Kinds.{Kind, measured, latitude, longitude, depth, flag, ctdFlag, expocode, stnnbr, castno, date, time, free, kindOf}
@@ -37,11 +37,12 @@ inFlags ctd (good m v d) = cond (inSet ctd v) (good m v d) outOfRange
 
 -- key text: no inner space, comma or /
 abbrev pub keyByte : ℕ → Bool
-keyByte x = not (eqb x 44 || eqb x 32 || eqb x 47)
+keyByte x = not (eqb x comma || eqb x space || eqb x slash)
 
 unfoldable pub keyTextOf : List ℕ → Verdict
 keyTextOf t = cond (every keyByte t) (good false 0 0) wrong
 
+-- eight digits YYYYMMDD that are a day
 unfoldable pub dateOf : List ℕ → Verdict
 dateOf t =
     cond (every isDigit t && eqb (length t) 8)
@@ -78,6 +79,7 @@ ofKind date t = dateOf t
 ofKind time t = timeOf t
 ofKind free t = good false 0 0
 
+-- the kind that any text is of
 abbrev pub isFree : Kind → Bool
 isFree measured = false
 isFree latitude = false
@@ -92,6 +94,7 @@ isFree date = false
 isFree time = false
 isFree free = true
 
+-- a trimmed text judged by f where it is not blank
 abbrev pub unlessBlank : (List ℕ → Verdict) → List ℕ → Verdict
 unlessBlank f [] = blank
 unlessBlank f (x ∷ xs) = f (x ∷ xs)
@@ -109,12 +112,13 @@ judgedOf n (good m v d) = record { at = n; number = 0; minus = m; size = v; deci
 
 -- a cell goes on at i: a line feed stands at e, at i or after it, and c parts cells
 unfoldable pub stopsAt : ℕ → List ℕ → ℕ → ℕ → Bool
-stopsAt c s i e = leb i e && ltb e (length s) && (eqb (getD s e 0) 10 && separates c)
+stopsAt c s i e = leb i e && ltb e (length s) && (eqb (getD s e 0) lineFeed && separates c)
 
 -- what judging the cell at i gives; where none goes on there, a wrong one that ends at i
 unfoldable pub judgedAt : ℕ → ℕ → List ℕ → ℕ → ℕ → Judged
 judgedAt k c s i e = cond (stopsAt c s i e) (judgedOf (cellEnd c s i) (judge (kindOf k) (cellAt c s i))) (judgedOf i wrong)
 
+-- what reading a whole number of at most so many digits there gives
 unfoldable pub wholeAt : ℕ → ℕ → List ℕ → ℕ → ℕ → Judged
 wholeAt most c s i e =
     cond (leb most 9 && stopsAt c s i e)

@@ -4,6 +4,7 @@ use mathlib.Core.List.{List, [], _∷_}
 use mathlib.Core.Bool.{cond}
 use lib.Dec.{eqb}
 
+-- the four decimal kinds, the flags, the keys of a profile with its date and time, and free text
 pub data Kind : Type 0 where
   measured latitude longitude depth : Kind
   flag ctdFlag : Kind

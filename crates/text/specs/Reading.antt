@@ -16,6 +16,7 @@ use Rattle.text.specs.Judge.{judgedAt}
 unfoldable pub doubleOf : ℤ → Float
 doubleOf m = div binary64 (ofInt binary64 m) (ofInt binary64 (pos 1000000))
 
+-- two numbers are the same
 abbrev pub sameNumber : ℤ → ℤ → Bool
 sameNumber (pos a) (pos b) = eqb a b
 sameNumber (pos a) (negsuc b) = false
@@ -26,6 +27,7 @@ sameNumber (negsuc a) (negsuc b) = eqb a b
 abbrev pub isMissing : ℤ → Bool
 isMissing m = sameNumber m (negℤ (pos 999000000))
 
+-- the reading of a number of millionths
 abbrev pub readNumber : ℤ → Reading
 readNumber m = cond (isMissing m) Missing (Present m (doubleOf m))
 
@@ -51,5 +53,6 @@ readingOf k j =
     (cond (eqb (j .number) 0) (readNumber (signed (j .minus) (j .size))) (Refused (j .number) 0 0))
     (Refused 22 0 0)
 
+-- what reading the cell at i gives
 unfoldable pub readingAt : ℕ → ℕ → List ℕ → ℕ → ℕ → Reading
 readingAt k c s i e = readingOf k (judgedAt k c s i e)

@@ -25,6 +25,7 @@ isMissingNumber (good m v d) = m && eqb v 999000000
 unfoldable pub missingIn : ℕ → Verdict → ℕ
 missingIn k v = cond (eqb k (codeOf measured) && isMissingNumber v) 1 0
 
+-- no key noted yet
 abbrev pub noKeys : Keys
 noKeys = record { expocode = record { start = 0; len = 0 }; stnnbr = record { start = 0; len = 0 }; castno = 0 }
 
@@ -49,9 +50,11 @@ endedAt at g m w j = record {
   keys = w;
 }
 
+-- where no cell can be judged
 abbrev pub noCells : ℕ → CellsRead
 noCells i = endedAt i 0 0 noKeys (judgedOf i wrong)
 
+-- no kind or no cell is left
 abbrev pub isLast : List ℕ → List (List ℕ) → Bool
 isLast [] ts = true
 isLast (k ∷ ks) [] = true

@@ -10,7 +10,7 @@ use lib.IntN.{ℤ, pos, negℤ}
 use Rattle.text.specs.declared.Judged.{Judged}
 use Rattle.text.specs.declared.Reading.{Reading}
 use Rattle.text.specs.declared.Reading.the-variants.{Present, Missing, Refused}
-use Rattle.text.specs.Bytes.{bytes}
+use Rattle.text.specs.Bytes.{lineFeed, comma, bytes}
 use Rattle.text.specs.Kinds.{Kind, measured, date, codeOf}
 use Rattle.text.specs.Judge.{judgedAt}
 use Rattle.text.specs.Reading.{isDecimal, readingAt}
@@ -22,6 +22,7 @@ pub data Answer : Type 0 where
   present : ℤ → Answer
   number : ℕ → Answer
 
+-- the answer of a reading, and of a judged cell
 abbrev pub ofReading : Reading → Answer
 ofReading (Present m v) = present m
 ofReading Missing = missing
@@ -34,9 +35,10 @@ ofJudged j = cond (eqb (j .number) 0) (number (j .size)) (refused (j .number))
 abbrev pub sampleGives : Kind → List ℕ → Answer
 sampleGives k t =
     cond (isDecimal k)
-    (ofReading (readingAt (codeOf k) 44 (t ++ 10 ∷ []) 0 (length t)))
-    (ofJudged (judgedAt (codeOf k) 44 (t ++ 10 ∷ []) 0 (length t)))
+    (ofReading (readingAt (codeOf k) comma (t ++ lineFeed ∷ []) 0 (length t)))
+    (ofJudged (judgedAt (codeOf k) comma (t ++ lineFeed ∷ []) 0 (length t)))
 
+-- a kind, a text of it, and its answer
 pub record Sample : Type 0 where
   pub kind : Kind
   pub text : String
@@ -45,6 +47,7 @@ pub record Sample : Type 0 where
 abbrev pub sample : Kind → String → Answer → Sample
 sample k t a = record { kind = k; text = t; gives = a }
 
+-- the samples marked P
 abbrev pub table : List Sample
 table =
     sample measured ".5" (present (pos 500000))

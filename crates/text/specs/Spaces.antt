@@ -25,6 +25,7 @@ unfoldable pub trimEnd : List ℕ → List ℕ
 trimEnd [] = []
 trimEnd (x ∷ xs) = keep x (trimEnd xs)
 
+-- without the spaces at both ends
 unfoldable pub trim : List ℕ → List ℕ
 trim t = trimFront (trimEnd t)
 

@@ -25,7 +25,7 @@ numberOf wrong = 16
 numberOf outOfRange = 18
 numberOf (good m v d) = 0
 
--- what is written: the size, the decimals, and the number of a decimal in millionths; 0 where it is refused
+-- what is written: the size, the decimals, and a decimal's millionths; 0 where it is refused
 abbrev pub sizeOf : Verdict → ℕ
 sizeOf blank = 0
 sizeOf wrong = 0
