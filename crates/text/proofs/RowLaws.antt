@@ -1,8 +1,8 @@
 -- The cells of a line, judged one after the other.
-use Prim.Native.Nat.{ℕ, zero, suc, _+_, _-_, _≤_, _<_}
+use Prim.Native.Nat.{ℕ, _+_, _-_, _≤_, _<_}
 use mathlib.Core.Path.{_≡_, refl, sym, ap, subst, _∙_}
 use mathlib.Core.List.{List, [], _∷_}
-use mathlib.Core.Bool.{Bool, true, false, cond, _&&_, _||_}
+use mathlib.Core.Bool.{Bool, true, false, cond, _||_}
 use native.Mathlib.Numerals.{add-one}
 use native.Mathlib.Omega.{arith}
 use lib.ListN.{length, getD, set, drop, drop-of-length-le}
@@ -19,7 +19,7 @@ use Rattle.text.specs.Judge.{judge, judgedOf, stopsAt, judgedAt}
 use Rattle.text.specs.Rows.{missingIn, noted, noKeys, endedAt, noCells, isLast, cellsFrom, cellsAt}
 use Rattle.text.specs.Inner.Rows.{share, keysIn}
 use Rattle.text.specs.Inner.Scans.{Stop}
-use Rattle.text.proofs.CellLaws.{cellEnd-parts, pieces-last, pieces-more, stop-holds}
+use Rattle.text.proofs.CellLaws.{cellEnd-parts, pieces-last, pieces-more}
 use Rattle.text.proofs.JudgeLaws.{judged-number, judged-at, judged-good}
 
 -- ---- the keys as five numbers

@@ -1,6 +1,5 @@
 -- The bench samples marked P, computed.
-use mathlib.Core.Path.{_≡_, refl}
-use lib.IntN.{negℤ}
+use mathlib.Core.Path.{refl}
 use Rattle.text.specs.Bytes.{every, equal, numeral}
 use Rattle.text.specs.Cells.{firstPiece, cellEnd}
 use Rattle.text.specs.Spaces.{trimFront, keep, trimEnd, trim}

@@ -1,5 +1,5 @@
 -- Bytes and texts. A file, a line, a cell and a name are lists of bytes, each a number below 256.
-use Prim.Native.Nat.{ℕ, suc, _+_, _-_, _*_}
+use Prim.Native.Nat.{ℕ, _+_, _-_, _*_}
 use Prim.Native.Char.{code}
 use Prim.Native.String as Text
 use Prim.Native.String.{String}

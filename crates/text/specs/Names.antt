@@ -1,7 +1,7 @@
 -- Document 01, "Lines" and "The catalogue": the bytes of a name, and what makes a column a flag column.
 use Prim.Native.Nat.{ℕ, _-_}
-use mathlib.Core.List.{List, [], _∷_}
-use mathlib.Core.Bool.{Bool, true, false, cond, not, _&&_}
+use mathlib.Core.List.{List}
+use mathlib.Core.Bool.{Bool, cond, not, _&&_}
 use lib.ListN.{length, take, drop}
 use lib.Dec.{eqb, leb}
 use Rattle.text.specs.Bytes.{comma, bytes, every, equal}

@@ -1,11 +1,10 @@
 -- Document 01, "Lines" and "Profiles": the cells of a line, judged from the left by their columns' kinds; what counts as a missing reading,
 -- and where the cells stand that make a bottle file's profiles.
-use Prim.Native.Nat.{ℕ, suc, _+_, _-_}
+use Prim.Native.Nat.{ℕ, _+_, _-_}
 use mathlib.Core.List.{List, [], _∷_}
-use mathlib.Core.Bool.{Bool, true, false, cond, _&&_, _||_}
+use mathlib.Core.Bool.{Bool, true, false, cond, _&&_}
 use lib.ListN.{length}
 use lib.Dec.{eqb}
-use Rattle.text.specs.declared.Span.{Span}
 use Rattle.text.specs.declared.Judged.{Judged}
 use Rattle.text.specs.declared.Keys.{Keys}
 use Rattle.text.specs.declared.CellsRead.{CellsRead}

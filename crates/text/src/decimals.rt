@@ -1,7 +1,7 @@
 // A decimal in one pass: spaces, sign, digits, point, digits, spaces.
 ghost use mathlib.Core.Path.{_≡_};
 ghost use mathlib.Core.Bool.{cond, _||_};
-ghost use Prim.Native.Nat.{_+_, _-_, _^_, _≤_, _<_};
+ghost use Prim.Native.Nat.{_+_, _-_, _≤_, _<_};
 ghost use lib.Dec.{eqb};
 ghost use Rattle.text.specs.Cells.{cellEnd, cellAt};
 ghost use Rattle.text.specs.Spaces.{trim};

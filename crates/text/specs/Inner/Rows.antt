@@ -4,7 +4,6 @@ use mathlib.Core.List.{List}
 use mathlib.Core.Bool.{cond, _&&_}
 use lib.ListN.{getD}
 use lib.Dec.{eqb}
-use Rattle.text.specs.declared.Span.{Span}
 use Rattle.text.specs.declared.Judged.{Judged}
 use Rattle.text.specs.declared.Keys.{Keys}
 use Rattle.text.specs.Kinds.{measured, codeOf}

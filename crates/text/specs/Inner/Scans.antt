@@ -9,7 +9,6 @@ use Rattle.text.specs.Bytes.{lineFeed, space, comma, slash, isSpace, isD
 use Rattle.text.specs.Cells.{cellAt, separates}
 use Rattle.text.specs.Spaces.{trimEnd}
 use Rattle.text.specs.Verdicts.{Verdict, wrong}
-use Rattle.text.specs.Judge.{keyByte}
 
 -- a scan from i stops at e, where the line feed stands; c parts cells
 pub record Stop (c : ℕ) (s : List ℕ) (i e : ℕ) : Type 0 where
