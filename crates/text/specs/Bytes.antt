@@ -23,19 +23,19 @@ abbrev pub space : ℕ
 space = 0x20
 
 abbrev pub plus : ℕ
-plus = 43
+plus = 0x2b
 
 abbrev pub comma : ℕ
-comma = 44
+comma = 0x2c
 
 abbrev pub hyphen : ℕ
-hyphen = 45
+hyphen = 0x2d
 
 abbrev pub point : ℕ
-point = 46
+point = 0x2e
 
 abbrev pub slash : ℕ
-slash = 47
+slash = 0x2f
 
 abbrev pub isSpace : ℕ → Bool
 isSpace x = eqb x space

@@ -1,4 +1,4 @@
-// A decimal in one pass: spaces, sign, digits, point, digits, spaces.
+// A decimal in one pass: spaces, sign, digits, point, digits, spaces; and the ends that every kind of cell has: blank, not of its kind, closed.
 ghost use mathlib.Core.Path.{_≡_};
 ghost use mathlib.Core.Bool.{cond, _||_};
 ghost use Prim.Native.Nat.{_+_, _-_, _≤_, _<_};
