@@ -11,16 +11,19 @@ use lib.ListN.{length, getD, drop}
 use lib.Seq.{drop-cons}
 use lib.Dec.{eqb, leb, ltb}
 use borrow.Author.Tests.{eqb-true, eqb-false, eq-eqb, ne-eqb, leb-true, le-leb, ltb-true, lt-ltb}
-use Rattle.text.specs.Cells.{firstPiece, laterPieces, pieces, lineAt, cellAt, next, separates}
+use Rattle.text.specs.Cells.{firstPiece, laterPieces, pieces, lineAt, cellAt, cellEnd, separates}
 use Rattle.text.specs.Judge.{stopsAt}
-use Rattle.text.specs.Scans.{Stop, isEnd}
+use Rattle.text.specs.Inner.Scans.{Stop}
 
 -- both parts of a test that is true
 pub both-true : (a b : Bool) → (a && b) ≡ true → (a ≡ true) × (b ≡ true)
 both-true true b e = (refl, e)
 both-true false b e = absurd (true≢false (sym e))
 
--- ---- the bytes at which a cell ends
+-- ---- the bytes at which a cell parted by c ends
+abbrev pub isEnd : ℕ → ℕ → Bool
+isEnd c x = eqb x c || eqb x 10
+
 -- no separator is above 10 but the comma
 pub inside-cell : (c x : ℕ) → separates c ≡ true → 10 < x → (x ≡ 44 → ⊥) → isEnd c x ≡ false
 inside-cell c x e h n = rw (ne-eqb x c (go (eqb c 44) (eqb c 10) (eqb c 9) refl refl refl e), ne-eqb x 10 (λ p. omega arith))
@@ -74,13 +77,13 @@ module _ (s : List ℕ) (p : ℕ) (l : p < length s) where
         go false true d e = rw d
         go false false d e = absurd (true≢false (sym e))
 
-    pub next-in : isEnd c (getD s p 0) ≡ false → next c s p ≡ next c s (p + 1)
-    unfolding next
-    next-in e = rw (cell-in e) (omega arith)
+    pub cellEnd-in : isEnd c (getD s p 0) ≡ false → cellEnd c s p ≡ cellEnd c s (p + 1)
+    unfolding cellEnd
+    cellEnd-in e = rw (cell-in e) (omega arith)
 
-    pub next-end : isEnd c (getD s p 0) ≡ true → next c s p ≡ p
-    unfolding next
-    next-end e = rw (cell-end e) (omega arith)
+    pub cellEnd-end : isEnd c (getD s p 0) ≡ true → cellEnd c s p ≡ p
+    unfolding cellEnd
+    cellEnd-end e = rw (cell-end e) (omega arith)
 
 piece-again : (c : ℕ) (xs : List ℕ) → firstPiece c (firstPiece c xs) ≡ firstPiece c xs
 unfolding firstPiece
@@ -96,9 +99,9 @@ piece-again c (x ∷ xs) = go (eqb x c) refl (piece-again c xs)
 pub cell-line : (s : List ℕ) (i : ℕ) → cellAt 10 s i ≡ lineAt s i
 cell-line s i = piece-again 10 (drop i s)
 
-pub next-from : (c : ℕ) (s : List ℕ) (i : ℕ) → i ≤ next c s i
-unfolding next
-next-from c s i = omega arith
+pub cellEnd-from : (c : ℕ) (s : List ℕ) (i : ℕ) → i ≤ cellEnd c s i
+unfolding cellEnd
+cellEnd-from c s i = omega arith
 
 -- ---- a scan that goes on before a line feed
 -- from another place before the same line feed
@@ -145,54 +148,54 @@ to-end {c} {s} {i} {e} t P f g = go (e - i) i (omega arith)
     go (suc k) p h = one (isEnd c (getD s p 0)) p (omega arith) refl (go k (p + 1) (omega arith))
 
 module _ {c : ℕ} {s : List ℕ} {i e : ℕ} (t : Stop c s i e) where
-  pub next-within : next c s i ≤ e
-  next-within =
-      to-end t (λ (p : ℕ). next c s p ≤ e)
-      (λ p h l d. rw (next-end s p l c d) h)
-      (λ p l d x. rw (next-in s p l c d) x)
+  pub cellEnd-within : cellEnd c s i ≤ e
+  cellEnd-within =
+      to-end t (λ (p : ℕ). cellEnd c s p ≤ e)
+      (λ p h l d. rw (cellEnd-end s p l c d) h)
+      (λ p l d x. rw (cellEnd-in s p l c d) x)
 
   -- the byte there is the separator or the line feed
-  pub next-ends : isEnd c (getD s (next c s i) 0) ≡ true
-  next-ends =
-      to-end t (λ (p : ℕ). isEnd c (getD s (next c s p) 0) ≡ true)
-      (λ p h l d. rw (next-end s p l c d) d)
-      (λ p l d x. rw (next-in s p l c d) x)
+  pub cellEnd-ends : isEnd c (getD s (cellEnd c s i) 0) ≡ true
+  cellEnd-ends =
+      to-end t (λ (p : ℕ). isEnd c (getD s (cellEnd c s p) 0) ≡ true)
+      (λ p h l d. rw (cellEnd-end s p l c d) d)
+      (λ p l d x. rw (cellEnd-in s p l c d) x)
 
-  pub next-parts : (getD s (next c s i) 0 ≡ 10 → ⊥) → getD s (next c s i) 0 ≡ c
-  next-parts n = end-parts c (getD s (next c s i) 0) next-ends n
+  pub cellEnd-parts : (getD s (cellEnd c s i) 0 ≡ 10 → ⊥) → getD s (cellEnd c s i) 0 ≡ c
+  cellEnd-parts n = end-parts c (getD s (cellEnd c s i) 0) cellEnd-ends n
 
   -- the line from i on is one cell, or a cell and those after its separator
-  pub pieces-last : getD s (next c s i) 0 ≡ 10 → pieces c (lineAt s i) ≡ cellAt c s i ∷ []
+  pub pieces-last : getD s (cellEnd c s i) 0 ≡ 10 → pieces c (lineAt s i) ≡ cellAt c s i ∷ []
   unfolding laterPieces
   pieces-last f = ap (λ (r : List (List ℕ)). cellAt c s i ∷ r) (to-end t P at-end before f)
     where
       P : ℕ → Type 0
-      P p = getD s (next c s p) 0 ≡ 10 → laterPieces c (lineAt s p) ≡ []
+      P p = getD s (cellEnd c s p) 0 ≡ 10 → laterPieces c (lineAt s p) ≡ []
 
       at-end : (p : ℕ) → p ≤ e → p < length s → isEnd c (getD s p 0) ≡ true → P p
-      at-end p h l d f = rw (line-end s p l (rw (next-end s p l c d) at f))
+      at-end p h l d f = rw (line-end s p l (rw (cellEnd-end s p l c d) at f))
 
       before : (p : ℕ) → p < length s → isEnd c (getD s p 0) ≡ false → P (p + 1) → P p
       before p l d x f =
           let n = end-neither c (getD s p 0) d in
-          rw (line-in s p l (n .1)) (rw (n .0) (x (rw (next-in s p l c d) at f)))
+          rw (line-in s p l (n .1)) (rw (n .0) (x (rw (cellEnd-in s p l c d) at f)))
 
-  pub pieces-more : (c ≡ 10 → ⊥) → getD s (next c s i) 0 ≡ c → pieces c (lineAt s i) ≡ cellAt c s i ∷ pieces c (lineAt s (next c s i + 1))
+  pub pieces-more : (c ≡ 10 → ⊥) → getD s (cellEnd c s i) 0 ≡ c → pieces c (lineAt s i) ≡ cellAt c s i ∷ pieces c (lineAt s (cellEnd c s i + 1))
   unfolding laterPieces
   pieces-more n f = ap (λ (r : List (List ℕ)). cellAt c s i ∷ r) (to-end t P at-end before f)
     where
       P : ℕ → Type 0
-      P p = getD s (next c s p) 0 ≡ c → laterPieces c (lineAt s p) ≡ pieces c (lineAt s (next c s p + 1))
+      P p = getD s (cellEnd c s p) 0 ≡ c → laterPieces c (lineAt s p) ≡ pieces c (lineAt s (cellEnd c s p + 1))
 
       at-end : (p : ℕ) → p ≤ e → p < length s → isEnd c (getD s p 0) ≡ true → P p
       at-end p h l d f =
-          let q : getD s p 0 ≡ c = rw (next-end s p l c d) at f in
-          rw (next-end s p l c d, line-in s p l (ne-eqb (getD s p 0) 10 (λ x. n (sym q ∙ x)))) (rw (eq-eqb (getD s p 0) c q))
+          let q : getD s p 0 ≡ c = rw (cellEnd-end s p l c d) at f in
+          rw (cellEnd-end s p l c d, line-in s p l (ne-eqb (getD s p 0) 10 (λ x. n (sym q ∙ x)))) (rw (eq-eqb (getD s p 0) c q))
 
       before : (p : ℕ) → p < length s → isEnd c (getD s p 0) ≡ false → P (p + 1) → P p
       before p l d x f =
           let m = end-neither c (getD s p 0) d in
-          rw (next-in s p l c d, line-in s p l (m .1)) (rw (m .0) (x (rw (next-in s p l c d) at f)))
+          rw (cellEnd-in s p l c d, line-in s p l (m .1)) (rw (m .0) (x (rw (cellEnd-in s p l c d) at f)))
 
 -- ---- the cells of a line counted byte by byte
 module _ (c : ℕ) (s : List ℕ) (p : ℕ) (l : p < length s) where

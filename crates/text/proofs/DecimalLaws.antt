@@ -12,13 +12,14 @@ use lib.Dec.{eqb, leb}
 use borrow.Author.Tests.{ne-eqb, leb-true, le-leb, lt-leb}
 use Rattle.text.specs.declared.Judged.{Judged}
 use Rattle.text.specs.Bytes.{isDigit, every, numeral}
-use Rattle.text.specs.Cells.{cellAt, next}
+use Rattle.text.specs.Cells.{cellAt, cellEnd}
 use Rattle.text.specs.Spaces.{trim}
-use Rattle.text.specs.Decimals.{Verdict, blank, wrong, outOfRange, good, front, fraction, settle, unsignedOf, decimalOf}
+use Rattle.text.specs.Verdicts.{Verdict, blank, wrong, outOfRange, good}
+use Rattle.text.specs.Decimals.{front, fraction, settle, unsignedOf, decimalOf}
 use Rattle.text.specs.Judge.{unlessBlank, judgedOf}
-use Rattle.text.specs.Scans.{Stop, Written, Spaced, Counted, isEnd, body, closing}
-use Rattle.text.proofs.CellLaws.{both-true, inside-cell, next-in}
-use Rattle.text.proofs.ScanLaws.{body-solid, body-digit, body-first, next-digits, judged-solid, digit-range, numeral-scaled}
+use Rattle.text.specs.Inner.Scans.{Stop, Written, Spaced, Counted, body, closing}
+use Rattle.text.proofs.CellLaws.{isEnd, both-true, inside-cell, cellEnd-in}
+use Rattle.text.proofs.ScanLaws.{body-solid, body-digit, body-first, cellEnd-digits, judged-solid, digit-range, numeral-scaled}
 
 -- The number v so far, b digits before the point and a after it; the flag says that the point was seen.
 unfoldable dec : Bool → ℕ → ℕ → ℕ → Bool → List ℕ → Verdict
@@ -149,20 +150,20 @@ module _ {c : ℕ} {s : List ℕ} {p e q v : ℕ} (t : Stop c s p e) (r : Counte
   here : unsignedOf m (body c s p) ≡ dec m v (q - p) 0 false (body c s q)
   here = dec-plain m (body c s p) ∙ before-digits t m 0 (r .over) ∙ rw (zero-add (q - p))
 
-  pub unsigned-wide : 9 < q - p → x ≡ judgedOf (next c s q) wrong → x ≡ judgedOf (next c s p) (unsignedOf m (body c s p))
-  unsigned-wide w h = rw (here, dec-wide m (body c s q) v (q - p) 0 w, next-digits t (r .over)) h
+  pub unsigned-wide : 9 < q - p → x ≡ judgedOf (cellEnd c s q) wrong → x ≡ judgedOf (cellEnd c s p) (unsignedOf m (body c s p))
+  unsigned-wide w h = rw (here, dec-wide m (body c s q) v (q - p) 0 w, cellEnd-digits t (r .over)) h
 
   module _ (n : getD s q 0 ≡ 46 → ⊥) (w : q - p ≤ 9) where
     whole : unsignedOf m (body c s p) ≡ closing (settle m v (q - p) 0) (body c s q)
     whole = here ∙ done-before c s q (omega arith) m v (q - p) 0 (r .stops (omega arith)) (ne-eqb (getD s q 0) 46 n)
 
-    pub unsigned-none : q ≡ p → x ≡ judgedOf (next c s q) wrong → x ≡ judgedOf (next c s p) (unsignedOf m (body c s p))
+    pub unsigned-none : q ≡ p → x ≡ judgedOf (cellEnd c s q) wrong → x ≡ judgedOf (cellEnd c s p) (unsignedOf m (body c s p))
     unsigned-none z h =
-        rw (whole, settle-none m v (q - p) 0 (omega arith) refl, closing-wrong (body c s q), next-digits t (r .over)) h
+        rw (whole, settle-none m v (q - p) 0 (omega arith) refl, closing-wrong (body c s q), cellEnd-digits t (r .over)) h
 
-    pub unsigned-whole : (q ≡ p → ⊥) → x ≡ judgedOf (next c s q) (closing (good m (v * 1000000) 0) (body c s q))
-        → x ≡ judgedOf (next c s p) (unsignedOf m (body c s p))
-    unsigned-whole z h = rw (whole, settle-good m v (q - p) 0 w (omega arith) (omega arith), next-digits t (r .over)) h
+    pub unsigned-whole : (q ≡ p → ⊥) → x ≡ judgedOf (cellEnd c s q) (closing (good m (v * 1000000) 0) (body c s q))
+        → x ≡ judgedOf (cellEnd c s p) (unsignedOf m (body c s p))
+    unsigned-whole z h = rw (whole, settle-good m v (q - p) 0 w (omega arith) (omega arith), cellEnd-digits t (r .over)) h
 
   module _ {f w : ℕ} (y : getD s q 0 ≡ 46) (g : Counted s (q + 1) e (q + 8) v f w) where
     inner : isEnd c (getD s q 0) ≡ false
@@ -174,23 +175,23 @@ module _ {c : ℕ} {s : List ℕ} {p e q v : ℕ} (t : Stop c s p e) (r : Counte
         here
         ∙ rw (body-solid c s q (omega arith) inner (rw y)) (rw y (after-digits t m (q - p) 0 (g .over) ∙ rw (zero-add (f - (q + 1)))))
 
-    past : next c s p ≡ next c s f
-    past = next-digits t (r .over) ∙ next-in s q (omega arith) c inner ∙ next-digits t (g .over)
+    past : cellEnd c s p ≡ cellEnd c s f
+    past = cellEnd-digits t (r .over) ∙ cellEnd-in s q (omega arith) c inner ∙ cellEnd-digits t (g .over)
 
-    pub unsigned-fine : 6 < f - (q + 1) → x ≡ judgedOf (next c s f) wrong → x ≡ judgedOf (next c s p) (unsignedOf m (body c s p))
+    pub unsigned-fine : 6 < f - (q + 1) → x ≡ judgedOf (cellEnd c s f) wrong → x ≡ judgedOf (cellEnd c s p) (unsignedOf m (body c s p))
     unsigned-fine u h = rw (there, dec-fine m (body c s f) w (q - p) (f - (q + 1)) u, past) h
 
     module _ (u : f - (q + 1) ≤ 6) where
       done : unsignedOf m (body c s p) ≡ closing (settle m w (q - p) (f - (q + 1))) (body c s f)
       done = there ∙ done-after c s f (omega arith) m w (q - p) (f - (q + 1)) (g .stops (omega arith))
 
-      pub unsigned-point : f - p ≡ 1 → x ≡ judgedOf (next c s f) wrong → x ≡ judgedOf (next c s p) (unsignedOf m (body c s p))
+      pub unsigned-point : f - p ≡ 1 → x ≡ judgedOf (cellEnd c s f) wrong → x ≡ judgedOf (cellEnd c s p) (unsignedOf m (body c s p))
       unsigned-point z h =
           rw (done, settle-none m w (q - p) (f - (q + 1)) (omega arith) (omega arith), closing-wrong (body c s f), past) h
 
       pub unsigned-good : (k : ℕ) → q - p ≤ 9 → (f - p ≡ 1 → ⊥) → k ≡ 10 ^ (6 - (f - (q + 1)))
-          → x ≡ judgedOf (next c s f) (closing (good m (w * k) (f - (q + 1))) (body c s f))
-          → x ≡ judgedOf (next c s p) (unsignedOf m (body c s p))
+          → x ≡ judgedOf (cellEnd c s f) (closing (good m (w * k) (f - (q + 1))) (body c s f))
+          → x ≡ judgedOf (cellEnd c s p) (unsignedOf m (body c s p))
       unsigned-good k b z j h =
           rw (done, settle-good m w (q - p) (f - (q + 1)) b u (omega arith), past) (rw j at h)
 
@@ -203,13 +204,13 @@ module _ {c : ℕ} {s : List ℕ} {i e a : ℕ} (t : Stop c s i e) (r : Spaced s
   signed false true p h = rw h
   signed false false p h = rw (h, body-solid c s a (omega arith) d (r .stops))
 
-  after : (z : Bool) (p : ℕ) → p ≡ cond z (a + 1) a → next c s a ≡ next c s p
-  after true p h = rw h (next-in s a (omega arith) c d)
+  after : (z : Bool) (p : ℕ) → p ≡ cond z (a + 1) a → cellEnd c s a ≡ cellEnd c s p
+  after true p h = rw h (cellEnd-in s a (omega arith) c d)
   after false p h = rw h
 
   pub decimal-signed : (p : ℕ) → p ≡ cond (eqb (getD s a 0) 45 || eqb (getD s a 0) 43) (a + 1) a
-      → x ≡ judgedOf (next c s p) (unsignedOf (eqb (getD s a 0) 45) (body c s p))
-      → x ≡ judgedOf (next c s i) (unlessBlank decimalOf (trim (cellAt c s i)))
+      → x ≡ judgedOf (cellEnd c s p) (unsignedOf (eqb (getD s a 0) 45) (body c s p))
+      → x ≡ judgedOf (cellEnd c s i) (unlessBlank decimalOf (trim (cellAt c s i)))
   unfolding decimalOf
   decimal-signed p h g =
       judged-solid t r decimalOf x d
@@ -283,3 +284,7 @@ decimal-small [] = tt
 decimal-small (x ∷ xs) =
     small-either 999999999999999 6 (eqb x 45) _ _ (unsigned-small true xs)
     (small-either 999999999999999 6 (eqb x 43) _ _ (unsigned-small false xs) (unsigned-small false (x ∷ xs)))
+
+-- no decimal is smaller than a millionth
+pub place-past : (n : ℕ) → 6 ≤ n → _≡_ {A = ℕ} 1 (10 ^ (6 - n))
+place-past n h = let z : 6 - n ≡ 0 = omega arith in rw z

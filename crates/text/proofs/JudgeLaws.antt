@@ -2,7 +2,7 @@
 use Prim.Native.Nat.{ℕ, zero, suc, _-_, _/_, _%_, _^_, _≤_, _<_}
 use mathlib.Core.Path.{_≡_, refl, sym, ap, _∙_}
 use mathlib.Core.List.{List, [], _∷_}
-use mathlib.Core.Bool.{Bool, true, false, cond, _&&_, _||_}
+use mathlib.Core.Bool.{Bool, true, false, cond, _&&_}
 use mathlib.Core.Logic.{⊎-elim}
 use native.Mathlib.Nat.{eq-or-lt-of-le, pow-le-pow-right}
 use native.Mathlib.Omega.{arith}
@@ -11,12 +11,15 @@ use lib.Dec.{eqb, leb, ltb}
 use borrow.Author.Tests.{eqb-true, ne-eqb, leb-true, le-leb, le-ltb, ltb-false}
 use Rattle.text.specs.declared.Judged.{Judged}
 use Rattle.text.specs.Bytes.{bytes, isDigit, every, equal, numeral}
-use Rattle.text.specs.Cells.{cellAt, next}
+use Rattle.text.specs.Cells.{cellAt, cellEnd}
 use Rattle.text.specs.Spaces.{trim}
-use Rattle.text.specs.Decimals.{Verdict, blank, wrong, outOfRange, good, decimalOf}
+use Rattle.text.specs.Verdicts.{Verdict, blank, wrong, outOfRange, good, numberOf}
+use Rattle.text.specs.Decimals.{decimalOf}
 use Rattle.text.specs.Dates.{isDate}
-use Rattle.text.specs.Judge.{Kind, measured, latitude, longitude, depth, flag, ctdFlag, expocode, stnnbr, castno, date, time, free, kindOf, numberOf, atMost, wholeOf, inFlags, keyByte, keyOf, dateOf, clockOf, timeOf, ofKind, isFree, unlessBlank, judge, judgedOf, topOf, rangedOf, stopsAt, judgedAt, wholeAt}
-use Rattle.text.specs.Scans.{Stop}
+use Rattle.text.specs.Kinds.{Kind, measured, latitude, longitude, depth, flag, ctdFlag, expocode, stnnbr, castno, date, time, free, kindOf}
+use Rattle.text.specs.Judge.{atMost, wholeOf, inSet, inFlags, keyByte, keyTextOf, dateOf, clockOf, timeOf, ofKind, isFree, unlessBlank, judge, judgedOf, stopsAt, judgedAt, wholeAt}
+use Rattle.text.specs.Inner.Cells.{topOf, rangedOf}
+use Rattle.text.specs.Inner.Scans.{Stop}
 use Rattle.text.proofs.CellLaws.{both-true, stop-holds}
 use Rattle.text.proofs.DecimalLaws.{Small, small-either, numeral-below, decimal-small}
 use Rattle.text.proofs.KindLaws.{sized, inYear, inDay}
@@ -84,7 +87,7 @@ module _ (n : ℕ) (u : List ℕ) (x : Judged) where
       (λ (g : 4 < k). let e : k ≡ 5 = omega arith in rw e (rw e at h))
       (eq-or-lt-of-le b)
 
-  pub kind-key : (k : ℕ) → 6 ≤ k → k < 8 → x ≡ judgedOf n (unlessBlank keyOf (trim u)) → x ≡ judgedOf n (judge (kindOf k) u)
+  pub kind-key : (k : ℕ) → 6 ≤ k → k < 8 → x ≡ judgedOf n (unlessBlank keyTextOf (trim u)) → x ≡ judgedOf n (judge (kindOf k) u)
   unfolding kindOf judge ofKind
   kind-key k b l h =
       ⊎-elim (λ (g : 6 ≡ k). rw (sym g) h)
@@ -153,7 +156,7 @@ small-flags : (ctd : Bool) (top most : ℕ) (v : Verdict) → Small top most v �
 small-flags ctd top most blank h = tt
 small-flags ctd top most wrong h = tt
 small-flags ctd top most outOfRange h = tt
-small-flags ctd top most (good m v d) h = small-either top most (eqb v 0 || (ctd && eqb v 8)) outOfRange (good m v d) tt h
+small-flags ctd top most (good m v d) h = small-either top most (inSet ctd v) (good m v d) outOfRange h tt
 
 date-small : (t : List ℕ) → Small 99999999 6 (dateOf t)
 unfolding dateOf
@@ -169,7 +172,7 @@ time-small t =
     (λ v h. small-either 9999 6 (leb (v / 100) 23 && leb (v % 100) 59) (good false v 0) outOfRange (h, omega arith) tt))
 
 kind-small : (k : Kind) (t : List ℕ) → Small (largest k) 6 (ofKind k t)
-unfolding ofKind keyOf
+unfolding ofKind keyTextOf
 kind-small measured t = decimal-small t
 kind-small latitude t = small-most 90000000 999999999999999 6 (decimalOf t) (decimal-small t)
 kind-small longitude t = small-most 180000000 999999999999999 6 (decimalOf t) (decimal-small t)
@@ -221,20 +224,20 @@ judged-good n (good m v d) h = refl
 
 -- ---- what the calls give
 module _ {c : ℕ} {s : List ℕ} {i e : ℕ} (t : Stop c s i e) where
-  pub judged-stop : (k : ℕ) → judgedAt k c s i e ≡ judgedOf (next c s i) (judge (kindOf k) (cellAt c s i))
+  pub judged-stop : (k : ℕ) → judgedAt k c s i e ≡ judgedOf (cellEnd c s i) (judge (kindOf k) (cellAt c s i))
   unfolding judgedAt
   judged-stop k = rw (stop-holds t)
 
-  pub judged-next : (k : ℕ) → judgedAt k c s i e .at ≡ next c s i
-  judged-next k = rw (judged-stop k) (judged-at (next c s i) (judge (kindOf k) (cellAt c s i)))
+  pub judged-end : (k : ℕ) → judgedAt k c s i e .at ≡ cellEnd c s i
+  judged-end k = rw (judged-stop k) (judged-at (cellEnd c s i) (judge (kindOf k) (cellAt c s i)))
 
   pub whole-stop : (most : ℕ) → most ≤ 9
-      → wholeAt most c s i e ≡ judgedOf (next c s i) (unlessBlank (wholeOf most) (trim (cellAt c s i)))
+      → wholeAt most c s i e ≡ judgedOf (cellEnd c s i) (unlessBlank (wholeOf most) (trim (cellAt c s i)))
   unfolding wholeAt
   whole-stop most h = rw (le-leb most 9 h, stop-holds t)
 
-  pub whole-next : (most : ℕ) → most ≤ 9 → wholeAt most c s i e .at ≡ next c s i
-  whole-next most h = rw (whole-stop most h) (judged-at (next c s i) (unlessBlank (wholeOf most) (trim (cellAt c s i))))
+  pub whole-end : (most : ℕ) → most ≤ 9 → wholeAt most c s i e .at ≡ cellEnd c s i
+  whole-end most h = rw (whole-stop most h) (judged-at (cellEnd c s i) (unlessBlank (wholeOf most) (trim (cellAt c s i))))
 
 sizes-either : (top i : ℕ) (z : Bool) (x : Judged) → (x .size ≤ top) × (x .decimals ≤ 6)
     → (cond z x (judgedOf i wrong) .size ≤ top) × (cond z x (judgedOf i wrong) .decimals ≤ 6)
@@ -245,12 +248,12 @@ module _ (c : ℕ) (s : List ℕ) (i e : ℕ) where
   pub judged-sizes : (k : ℕ) → (judgedAt k c s i e .size ≤ largest (kindOf k)) × (judgedAt k c s i e .decimals ≤ 6)
   unfolding judgedAt
   judged-sizes k =
-      sizes-either (largest (kindOf k)) i (stopsAt c s i e) (judgedOf (next c s i) (judge (kindOf k) (cellAt c s i)))
-      (judged-small (largest (kindOf k)) 6 (next c s i) (judge (kindOf k) (cellAt c s i)) (judge-small (kindOf k) (cellAt c s i)))
+      sizes-either (largest (kindOf k)) i (stopsAt c s i e) (judgedOf (cellEnd c s i) (judge (kindOf k) (cellAt c s i)))
+      (judged-small (largest (kindOf k)) 6 (cellEnd c s i) (judge (kindOf k) (cellAt c s i)) (judge-small (kindOf k) (cellAt c s i)))
 
   pub whole-sizes : (most : ℕ) → (wholeAt most c s i e .size ≤ 10 ^ most - 1) × (wholeAt most c s i e .decimals ≤ 6)
   unfolding wholeAt
   whole-sizes most =
       let v = unlessBlank (wholeOf most) (trim (cellAt c s i)) in
-      sizes-either (10 ^ most - 1) i (leb most 9 && stopsAt c s i e) (judgedOf (next c s i) v)
-      (judged-small (10 ^ most - 1) 6 (next c s i) v (unless-small (10 ^ most - 1) 6 (wholeOf most) (trim (cellAt c s i)) (whole-small most)))
+      sizes-either (10 ^ most - 1) i (leb most 9 && stopsAt c s i e) (judgedOf (cellEnd c s i) v)
+      (judged-small (10 ^ most - 1) 6 (cellEnd c s i) v (unless-small (10 ^ most - 1) 6 (wholeOf most) (trim (cellAt c s i)) (whole-small most)))

@@ -1,23 +1,24 @@
--- Whole numbers, flags, key texts, dates and times by what is left of their cells.
-use Prim.Native.Nat.{ℕ, suc, _+_, _-_, _/_, _%_, _≤_, _<_}
+-- Whole numbers, flags, key texts, dates and times by what is left of their cells; and the kinds and their numbers.
+use Prim.Native.Nat.{ℕ, zero, suc, _+_, _-_, _/_, _%_, _≤_, _<_}
 use mathlib.Core.Path.{_≡_, refl, sym, ap, _∙_}
 use mathlib.Core.List.{List, [], _∷_}
-use mathlib.Core.Bool.{Bool, true, false, cond, _&&_, _||_, and-false, true≢false}
+use mathlib.Core.Bool.{Bool, true, false, cond, not, _&&_, _||_, and-false, true≢false}
 use mathlib.Core.Logic.{⊎-elim}
 use native.Mathlib.Nat.{add-zero, zero-add}
 use native.Mathlib.Omega.{arith}
 use lib.ListN.{length, getD}
 use lib.Dec.{eqb, leb, ltb}
-use borrow.Author.Tests.{eqb-true, eqb-false, eq-eqb, ne-eqb, le-leb, lt-leb, ltb-true, ltb-false}
+use borrow.Author.Tests.{eqb-true, eqb-false, eq-eqb, ne-eqb, leb-true, le-leb, lt-leb, ltb-true, ltb-false}
 use Rattle.text.specs.declared.Judged.{Judged}
 use Rattle.text.specs.Bytes.{isSpace, isDigit, every, equal, numeral}
-use Rattle.text.specs.Cells.{next}
-use Rattle.text.specs.Decimals.{Verdict, wrong, outOfRange, good}
+use Rattle.text.specs.Cells.{cellEnd}
+use Rattle.text.specs.Kinds.{Kind, measured, latitude, longitude, depth, flag, ctdFlag, expocode, stnnbr, castno, date, time, free, codeOf, kindOf}
+use Rattle.text.specs.Verdicts.{Verdict, wrong, outOfRange, good}
 use Rattle.text.specs.Dates.{isDate}
-use Rattle.text.specs.Judge.{wholeOf, inFlags, keyByte, keyOf, dateOf, clockOf, timeOf, judgedOf}
-use Rattle.text.specs.Scans.{Stop, Written, Counted, Worded, isEnd, wordByte, body, closing}
-use Rattle.text.proofs.CellLaws.{inside-cell, stop-moved, stop-inside, next-in}
-use Rattle.text.proofs.ScanLaws.{digit-range, digit-low, digit-high, digit-yes, scan-undo, word-inside, word-outside, body-end, body-solid, body-digit, body-first, next-digits}
+use Rattle.text.specs.Judge.{wholeOf, inSet, inFlags, keyByte, keyTextOf, dateOf, clockOf, timeOf, judgedOf}
+use Rattle.text.specs.Inner.Scans.{Stop, Written, Counted, Worded, wordByte, body, closing}
+use Rattle.text.proofs.CellLaws.{isEnd, both-true, inside-cell, stop-moved, stop-inside, cellEnd-in}
+use Rattle.text.proofs.ScanLaws.{digit-range, digit-low, digit-high, digit-yes, scan-undo, word-inside, word-outside, body-end, body-solid, body-digit, body-first, cellEnd-digits}
 use Rattle.text.proofs.DecimalLaws.{closing-wrong}
 
 -- ---- a text of digits, by its length and by what it writes
@@ -75,28 +76,46 @@ module _ (n : ℕ) (t : List ℕ) (v : ℕ) (o : Verdict) (y : Judged) (h : y �
 
 -- ---- whole numbers
 module _ {c : ℕ} {s : List ℕ} {i e q v : ℕ} (t : Stop c s i e) (r : Counted s i e (i + 10) 0 q v) (most : ℕ) (x : Judged) where
-  pub whole-wide : most < q - i → x ≡ judgedOf (next c s q) wrong → x ≡ judgedOf (next c s i) (wholeOf most (body c s i))
+  pub whole-wide : most < q - i → x ≡ judgedOf (cellEnd c s q) wrong → x ≡ judgedOf (cellEnd c s i) (wholeOf most (body c s i))
   unfolding wholeOf
   whole-wide w h =
-      rw (sized-over t r (λ n. leb n most) (λ n. good false n 0) (λ k l. lt-leb k most (omega arith)), next-digits t (r .over)) h
+      rw (sized-over t r (λ n. leb n most) (λ n. good false n 0) (λ k l. lt-leb k most (omega arith)), cellEnd-digits t (r .over)) h
 
   whole-run : most ≤ 9 → q - i ≤ most → wholeOf most (body c s i) ≡ closing (good false v 0) (body c s q)
   unfolding wholeOf
   whole-run b w = sized-run t r (λ n. leb n most) (λ n. good false n 0) (omega arith) ∙ rw (le-leb (q - i) most w)
 
-  pub whole-none : isEnd c (getD s i 0) ≡ false → isSpace (getD s i 0) ≡ false → q ≡ i → x ≡ judgedOf (next c s q) wrong
-      → x ≡ judgedOf (next c s i) (wholeOf most (body c s i))
+  pub whole-none : isEnd c (getD s i 0) ≡ false → isSpace (getD s i 0) ≡ false → q ≡ i → x ≡ judgedOf (cellEnd c s q) wrong
+      → x ≡ judgedOf (cellEnd c s i) (wholeOf most (body c s i))
   unfolding wholeOf every
   whole-none d n z h =
       let l : i < length s = omega arith in
       let o : isDigit (getD s i 0) ≡ false = rw z at (r .stops (omega arith)) in
       rw (body-solid c s i l d n) (rw o (rw z at h))
 
-  pub whole-good : most ≤ 9 → q - i ≤ most → x ≡ judgedOf (next c s q) (closing (good false v 0) (body c s q))
-      → x ≡ judgedOf (next c s i) (wholeOf most (body c s i))
-  whole-good b w h = rw (whole-run b w, next-digits t (r .over)) h
+  pub whole-good : most ≤ 9 → q - i ≤ most → x ≡ judgedOf (cellEnd c s q) (closing (good false v 0) (body c s q))
+      → x ≡ judgedOf (cellEnd c s i) (wholeOf most (body c s i))
+  whole-good b w h = rw (whole-run b w, cellEnd-digits t (r .over)) h
 
 -- ---- flags
+pub set-parts : (ctd : Bool) (v : ℕ) → inSet ctd v ≡ true → (1 ≤ v) × (v ≤ 9) × (ctd ≡ true → v ≡ 8 → ⊥)
+set-parts ctd v h =
+    let a = both-true (leb 1 v && leb v 9) (not (ctd && eqb v 8)) h in
+    let b = both-true (leb 1 v) (leb v 9) (a .0) in
+    (leb-true 1 v (b .0), leb-true v 9 (b .1), λ c e. true≢false (sym (rw (c, eq-eqb v 8 e) at (a .1))))
+
+-- of the numbers up to 9 the set has all but 0, and 8 for CTD
+set-digit : (ctd : Bool) (v : ℕ) → v ≤ 9 → inSet ctd v ≡ not (eqb v 0 || (ctd && eqb v 8))
+set-digit ctd v h = go (eqb v 0) refl
+  where
+    go : (z : Bool) → eqb v 0 ≡ z → inSet ctd v ≡ not (z || (ctd && eqb v 8))
+    go true e = rw (lt-leb 1 v (omega (arith, eqb-true v 0 e)))
+    go false e = rw (le-leb 1 v (omega (arith, eqb-false v 0 e)), le-leb v 9 h)
+
+cond-not : (z : Bool) (a b : Verdict) → cond (not z) a b ≡ cond z b a
+cond-not true a b = refl
+cond-not false a b = refl
+
 module _ (x : ℕ) where
   digit-outside : (ltb x 48 || ltb 57 x) ≡ true → isDigit x ≡ false
   digit-outside h = go (ltb x 48) (ltb 57 x) refl refl h
@@ -131,43 +150,46 @@ module _ (x : ℕ) where
   flag-one ctd t e = rw (whole-one t e) (go t)
     where
       go : (u : List ℕ) → inFlags ctd (closing (good false (x - 48) 0) u) ≡ closing (cond (eqb x 48 || (ctd && eqb x 56)) outOfRange (good false (x - 48) 0)) u
-      go [] = let b = digit-range x e in rw (shifted 0 (b .0), shifted 8 (b .0))
+      go [] =
+          let b = digit-range x e in
+          rw (set-digit ctd (x - 48) (omega arith), shifted 0 (b .0), shifted 8 (b .0))
+          (cond-not (eqb x 48 || (ctd && eqb x 56)) (good false (x - 48) 0) outOfRange)
       go (y ∷ u) = refl
 
 module _ {c : ℕ} {s : List ℕ} {a e : ℕ} (t : Stop c s a e) (ctd : Bool) where
   pub flag-wrong : (x : Judged) → isEnd c (getD s a 0) ≡ false → isSpace (getD s a 0) ≡ false → (ltb (getD s a 0) 48 || ltb 57 (getD s a 0)) ≡ true
-      → x ≡ judgedOf (next c s a) wrong → x ≡ judgedOf (next c s a) (inFlags ctd (wholeOf 1 (body c s a)))
+      → x ≡ judgedOf (cellEnd c s a) wrong → x ≡ judgedOf (cellEnd c s a) (inFlags ctd (wholeOf 1 (body c s a)))
   unfolding wholeOf every
   flag-wrong x d n o h = rw (body-solid c s a (omega arith) d n) (rw (digit-outside (getD s a 0) o) h)
 
   module _ (d : (ltb (getD s a 0) 48 || ltb 57 (getD s a 0)) ≡ false) (y : Judged)
-      (h : y ≡ judgedOf (next c s (a + 1)) (closing (good false (getD s a 0 - 48) 0) (body c s (a + 1)))) where
+      (h : y ≡ judgedOf (cellEnd c s (a + 1)) (closing (good false (getD s a 0 - 48) 0) (body c s (a + 1)))) where
     within : Verdict
     within = cond (eqb (getD s a 0) 48 || (ctd && eqb (getD s a 0) 56)) outOfRange (good false (getD s a 0 - 48) 0)
 
-    flagged : judgedOf (next c s (a + 1)) (closing within (body c s (a + 1))) ≡ judgedOf (next c s a) (inFlags ctd (wholeOf 1 (body c s a)))
+    flagged : judgedOf (cellEnd c s (a + 1)) (closing within (body c s (a + 1))) ≡ judgedOf (cellEnd c s a) (inFlags ctd (wholeOf 1 (body c s a)))
     unfolding within
     flagged =
         let n = digit-within (getD s a 0) d in
-        rw (body-digit t a (omega arith) n, flag-one (getD s a 0) ctd (body c s (a + 1)) n, next-digits t (Written.more {v = 0} Written.still (omega arith) n))
+        rw (body-digit t a (omega arith) n, flag-one (getD s a 0) ctd (body c s (a + 1)) n, cellEnd-digits t (Written.more {v = 0} Written.still (omega arith) n))
 
-    pub flag-refused : (y .number ≡ 0 → ⊥) → y ≡ judgedOf (next c s a) (inFlags ctd (wholeOf 1 (body c s a)))
+    pub flag-refused : (y .number ≡ 0 → ⊥) → y ≡ judgedOf (cellEnd c s a) (inFlags ctd (wholeOf 1 (body c s a)))
     flag-refused z = range-refused _ (body c s (a + 1)) _ within y h z ∙ flagged
 
     pub flag-out : (x : Judged) → y .number ≡ 0 → (eqb (getD s a 0) 48 || (ctd && eqb (getD s a 0) 56)) ≡ true
-        → x ≡ judgedOf (y .at) outOfRange → x ≡ judgedOf (next c s a) (inFlags ctd (wholeOf 1 (body c s a)))
+        → x ≡ judgedOf (y .at) outOfRange → x ≡ judgedOf (cellEnd c s a) (inFlags ctd (wholeOf 1 (body c s a)))
     unfolding within
     flag-out x z o g = range-out _ (body c s (a + 1)) _ within y h x z (rw o) g ∙ flagged
 
-    pub flag-good : (eqb (getD s a 0) 48 || (ctd && eqb (getD s a 0) 56)) ≡ false → y ≡ judgedOf (next c s a) (inFlags ctd (wholeOf 1 (body c s a)))
+    pub flag-good : (eqb (getD s a 0) 48 || (ctd && eqb (getD s a 0) 56)) ≡ false → y ≡ judgedOf (cellEnd c s a) (inFlags ctd (wholeOf 1 (body c s a)))
     unfolding within
     flag-good o = range-good _ (body c s (a + 1)) _ within y h (rw o) ∙ flagged
 
 -- ---- key texts
 module _ {c : ℕ} {s : List ℕ} {i e q : ℕ} (t : Stop c s i e) (r : Worded c s i e q) (x : Judged) where
-  next-word : next c s i ≡ next c s q
-  next-word =
-      scan-undo (λ (p : ℕ). next c s p ≡ next c s q) (λ p l d x. next-in s p l c (word-inside c (getD s p 0) d .0) ∙ x) (r .over) refl
+  cellEnd-word : cellEnd c s i ≡ cellEnd c s q
+  cellEnd-word =
+      scan-undo (λ (p : ℕ). cellEnd c s p ≡ cellEnd c s q) (λ p l d x. cellEnd-in s p l c (word-inside c (getD s p 0) d .0) ∙ x) (r .over) refl
 
   every-word : every keyByte (body c s i) ≡ every keyByte (body c s q)
   unfolding every
@@ -179,8 +201,8 @@ module _ {c : ℕ} {s : List ℕ} {i e q : ℕ} (t : Stop c s i e) (r : Worded c
           let w = word-inside c (getD s p 0) d in
           rw (body-solid c s p l (w .0) (w .1)) (rw (w .2) x)
 
-  key-run : keyOf (body c s i) ≡ closing (good false 0 0) (body c s q)
-  unfolding keyOf every
+  key-run : keyTextOf (body c s i) ≡ closing (good false 0 0) (body c s q)
+  unfolding keyTextOf every
   key-run = rw every-word (go (isEnd c (getD s q 0)) refl)
     where
       go : (z : Bool) → isEnd c (getD s q 0) ≡ z → cond (every keyByte (body c s q)) (good false 0 0) wrong ≡ closing (good false 0 0) (body c s q)
@@ -190,8 +212,8 @@ module _ {c : ℕ} {s : List ℕ} {i e q : ℕ} (t : Stop c s i e) (r : Worded c
           (λ (h : (ys : List ℕ) × (body c s q ≡ getD s q 0 ∷ ys)). rw (h .1) (rw (word-outside c (getD s q 0) (r .stops) d)))
           (body-first c s q (omega arith))
 
-  pub key-word : x ≡ judgedOf (next c s q) (closing (good false 0 0) (body c s q)) → x ≡ judgedOf (next c s i) (keyOf (body c s i))
-  key-word h = rw (key-run, next-word) h
+  pub key-word : x ≡ judgedOf (cellEnd c s q) (closing (good false 0 0) (body c s q)) → x ≡ judgedOf (cellEnd c s i) (keyTextOf (body c s i))
+  key-word h = rw (key-run, cellEnd-word) h
 
 -- ---- dates and times: so many digits, and a range
 module _ {c : ℕ} {s : List ℕ} {i e k q v : ℕ} (t : Stop c s i e) (r : Counted s i e (i + (k + 1)) 0 q v) (f : ℕ → Verdict) where
@@ -213,45 +235,45 @@ abbrev pub inYear : ℕ → Verdict
 inYear n = cond (isDate n) (good false n 0) outOfRange
 
 module _ {c : ℕ} {s : List ℕ} {i e q v : ℕ} (t : Stop c s i e) (r : Counted s i e (i + 9) 0 q v) where
-  pub date-other : (x : Judged) → (q - i ≡ 8 → ⊥) → x ≡ judgedOf (next c s q) wrong → x ≡ judgedOf (next c s i) (dateOf (body c s i))
+  pub date-other : (x : Judged) → (q - i ≡ 8 → ⊥) → x ≡ judgedOf (cellEnd c s q) wrong → x ≡ judgedOf (cellEnd c s i) (dateOf (body c s i))
   unfolding dateOf
-  date-other x n h = rw (fixed-other {k = 8} t r inYear n, next-digits t (r .over)) h
+  date-other x n h = rw (fixed-other {k = 8} t r inYear n, cellEnd-digits t (r .over)) h
 
-  module _ (n : q - i ≡ 8) (y : Judged) (h : y ≡ judgedOf (next c s q) (closing (good false v 0) (body c s q))) where
-    dated : judgedOf (next c s q) (closing (inYear v) (body c s q)) ≡ judgedOf (next c s i) (dateOf (body c s i))
+  module _ (n : q - i ≡ 8) (y : Judged) (h : y ≡ judgedOf (cellEnd c s q) (closing (good false v 0) (body c s q))) where
+    dated : judgedOf (cellEnd c s q) (closing (inYear v) (body c s q)) ≡ judgedOf (cellEnd c s i) (dateOf (body c s i))
     unfolding dateOf
-    dated = rw (fixed-run {k = 8} t r inYear n, next-digits t (r .over))
+    dated = rw (fixed-run {k = 8} t r inYear n, cellEnd-digits t (r .over))
 
-    pub date-refused : (y .number ≡ 0 → ⊥) → y ≡ judgedOf (next c s i) (dateOf (body c s i))
+    pub date-refused : (y .number ≡ 0 → ⊥) → y ≡ judgedOf (cellEnd c s i) (dateOf (body c s i))
     date-refused z = range-refused _ (body c s q) v (inYear v) y h z ∙ dated
 
-    pub date-good : isDate v ≡ true → y ≡ judgedOf (next c s i) (dateOf (body c s i))
+    pub date-good : isDate v ≡ true → y ≡ judgedOf (cellEnd c s i) (dateOf (body c s i))
     date-good o = range-good _ (body c s q) v (inYear v) y h (rw o) ∙ dated
 
-    pub date-out : (x : Judged) → y .number ≡ 0 → isDate v ≡ false → x ≡ judgedOf (y .at) outOfRange → x ≡ judgedOf (next c s i) (dateOf (body c s i))
+    pub date-out : (x : Judged) → y .number ≡ 0 → isDate v ≡ false → x ≡ judgedOf (y .at) outOfRange → x ≡ judgedOf (cellEnd c s i) (dateOf (body c s i))
     date-out x z o g = range-out _ (body c s q) v (inYear v) y h x z (rw o) g ∙ dated
 
 abbrev pub inDay : ℕ → Verdict
 inDay n = cond (leb (n / 100) 23 && leb (n % 100) 59) (good false n 0) outOfRange
 
 module _ {c : ℕ} {s : List ℕ} {i e q v : ℕ} (t : Stop c s i e) (r : Counted s i e (i + 5) 0 q v) where
-  pub clock-other : (x : Judged) → (q - i ≡ 4 → ⊥) → x ≡ judgedOf (next c s q) wrong → x ≡ judgedOf (next c s i) (clockOf (body c s i))
+  pub clock-other : (x : Judged) → (q - i ≡ 4 → ⊥) → x ≡ judgedOf (cellEnd c s q) wrong → x ≡ judgedOf (cellEnd c s i) (clockOf (body c s i))
   unfolding clockOf
-  clock-other x n h = rw (fixed-other {k = 4} t r inDay n, next-digits t (r .over)) h
+  clock-other x n h = rw (fixed-other {k = 4} t r inDay n, cellEnd-digits t (r .over)) h
 
-  module _ (n : q - i ≡ 4) (y : Judged) (h : y ≡ judgedOf (next c s q) (closing (good false v 0) (body c s q))) where
-    clocked : judgedOf (next c s q) (closing (inDay v) (body c s q)) ≡ judgedOf (next c s i) (clockOf (body c s i))
+  module _ (n : q - i ≡ 4) (y : Judged) (h : y ≡ judgedOf (cellEnd c s q) (closing (good false v 0) (body c s q))) where
+    clocked : judgedOf (cellEnd c s q) (closing (inDay v) (body c s q)) ≡ judgedOf (cellEnd c s i) (clockOf (body c s i))
     unfolding clockOf
-    clocked = rw (fixed-run {k = 4} t r inDay n, next-digits t (r .over))
+    clocked = rw (fixed-run {k = 4} t r inDay n, cellEnd-digits t (r .over))
 
-    pub clock-refused : (y .number ≡ 0 → ⊥) → y ≡ judgedOf (next c s i) (clockOf (body c s i))
+    pub clock-refused : (y .number ≡ 0 → ⊥) → y ≡ judgedOf (cellEnd c s i) (clockOf (body c s i))
     clock-refused z = range-refused _ (body c s q) v (inDay v) y h z ∙ clocked
 
-    pub clock-good : (leb (v / 100) 23 && leb (v % 100) 59) ≡ true → y ≡ judgedOf (next c s i) (clockOf (body c s i))
+    pub clock-good : (leb (v / 100) 23 && leb (v % 100) 59) ≡ true → y ≡ judgedOf (cellEnd c s i) (clockOf (body c s i))
     clock-good o = range-good _ (body c s q) v (inDay v) y h (rw o) ∙ clocked
 
     pub clock-out : (x : Judged) → y .number ≡ 0 → (leb (v / 100) 23 && leb (v % 100) 59) ≡ false → x ≡ judgedOf (y .at) outOfRange
-        → x ≡ judgedOf (next c s i) (clockOf (body c s i))
+        → x ≡ judgedOf (cellEnd c s i) (clockOf (body c s i))
     clock-out x z o g = range-out _ (body c s q) v (inDay v) y h x z (rw o) g ∙ clocked
 
 -- ---- -999 after its sign
@@ -287,8 +309,8 @@ module _ {c : ℕ} {s : List ℕ} {p e : ℕ} (t : Stop c s p e) where
   pub nine-next : getD s p 0 ≡ 57 → Stop c s (p + 1) e
   nine-next h = stop-moved t (omega (arith, stop-inside t (nine-end t [] h)))
 
-  nine-skip : getD s p 0 ≡ 57 → next c s p ≡ next c s (p + 1)
-  nine-skip h = next-in s p (omega arith) c (nine-end t [] h)
+  nine-skip : getD s p 0 ≡ 57 → cellEnd c s p ≡ cellEnd c s (p + 1)
+  nine-skip h = cellEnd-in s p (omega arith) c (nine-end t [] h)
 
 module _ {c : ℕ} {s : List ℕ} {p e : ℕ} (t : Stop c s p e) where
   pub nines-two : getD s p 0 ≡ 57 → getD s (p + 1) 0 ≡ 57 → Stop c s (p + 2) e
@@ -298,15 +320,15 @@ module _ {c : ℕ} {s : List ℕ} {p e : ℕ} (t : Stop c s p e) where
   nines-three a b d = let u = nine-next (nines-two a b) d in stop-moved t (omega arith)
 
   module _ (x : Judged) where
-    nines-wrong : equal (body c s p) (57 ∷ 57 ∷ 57 ∷ []) ≡ false → x ≡ judgedOf (next c s p) wrong
-        → x ≡ judgedOf (next c s p) (timeOf (45 ∷ body c s p))
+    nines-wrong : equal (body c s p) (57 ∷ 57 ∷ 57 ∷ []) ≡ false → x ≡ judgedOf (cellEnd c s p) wrong
+        → x ≡ judgedOf (cellEnd c s p) (timeOf (45 ∷ body c s p))
     nines-wrong d h = rw (time-minus (body c s p), d) h
 
-    pub time-first : (getD s p 0 ≡ 57 → ⊥) → x ≡ judgedOf (next c s p) wrong → x ≡ judgedOf (next c s p) (timeOf (45 ∷ body c s p))
+    pub time-first : (getD s p 0 ≡ 57 → ⊥) → x ≡ judgedOf (cellEnd c s p) wrong → x ≡ judgedOf (cellEnd c s p) (timeOf (45 ∷ body c s p))
     time-first n h = nines-wrong (nine-out t (57 ∷ 57 ∷ []) n) h
 
     module _ (a : getD s p 0 ≡ 57) where
-      pub time-second : (getD s (p + 1) 0 ≡ 57 → ⊥) → x ≡ judgedOf (next c s p) wrong → x ≡ judgedOf (next c s p) (timeOf (45 ∷ body c s p))
+      pub time-second : (getD s (p + 1) 0 ≡ 57 → ⊥) → x ≡ judgedOf (cellEnd c s p) wrong → x ≡ judgedOf (cellEnd c s p) (timeOf (45 ∷ body c s p))
       time-second n h = nines-wrong (nine-in t (57 ∷ 57 ∷ []) a ∙ nine-out (nine-next t a) (57 ∷ []) n) h
 
       module _ (b : getD s (p + 1) 0 ≡ 57) where
@@ -315,24 +337,56 @@ module _ {c : ℕ} {s : List ℕ} {p e : ℕ} (t : Stop c s p e) where
             let z : p + 1 + 1 ≡ p + 2 = omega arith in
             nine-in t (57 ∷ 57 ∷ []) a ∙ rw z at (nine-in (nine-next t a) (57 ∷ []) b)
 
-        pub time-third : (getD s (p + 2) 0 ≡ 57 → ⊥) → x ≡ judgedOf (next c s p) wrong → x ≡ judgedOf (next c s p) (timeOf (45 ∷ body c s p))
+        pub time-third : (getD s (p + 2) 0 ≡ 57 → ⊥) → x ≡ judgedOf (cellEnd c s p) wrong → x ≡ judgedOf (cellEnd c s p) (timeOf (45 ∷ body c s p))
         time-third n h = nines-wrong (two ∙ nine-out (nines-two a b) [] n) h
 
-        pub time-nines : getD s (p + 2) 0 ≡ 57 → x ≡ judgedOf (next c s (p + 3)) (closing (good true 999 0) (body c s (p + 3)))
-            → x ≡ judgedOf (next c s p) (timeOf (45 ∷ body c s p))
+        pub time-nines : getD s (p + 2) 0 ≡ 57 → x ≡ judgedOf (cellEnd c s (p + 3)) (closing (good true 999 0) (body c s (p + 3)))
+            → x ≡ judgedOf (cellEnd c s p) (timeOf (45 ∷ body c s p))
         time-nines d h =
             let z : p + 1 + 1 ≡ p + 2 = omega arith in
             let y : p + 2 + 1 ≡ p + 3 = omega arith in
-            let u : next c s p ≡ next c s (p + 3) = nine-skip t a ∙ (rw z at (nine-skip (nine-next t a) b)) ∙ (rw y at (nine-skip (nines-two a b) d)) in
+            let u : cellEnd c s p ≡ cellEnd c s (p + 3) = nine-skip t a ∙ (rw z at (nine-skip (nine-next t a) b)) ∙ (rw y at (nine-skip (nines-two a b) d)) in
             let w : equal (body c s p) (57 ∷ 57 ∷ 57 ∷ []) ≡ equal (body c s (p + 3)) [] = two ∙ (rw y at (nine-in (nines-two a b) [] d)) in
             rw (time-minus (body c s p), w, u, equal-end (good true 999 0) (body c s (p + 3))) h
 
   -- ---- a time of day, or -999
   module _ (x : Judged) (d : isEnd c (getD s p 0) ≡ false) where
-    pub time-minus-sign : getD s p 0 ≡ 45 → x ≡ judgedOf (next c s (p + 1)) (timeOf (45 ∷ body c s (p + 1))) → x ≡ judgedOf (next c s p) (timeOf (body c s p))
-    time-minus-sign m h = rw (body-solid c s p (omega arith) d (rw m), next-in s p (omega arith) c d) (rw m h)
+    pub time-minus-sign : getD s p 0 ≡ 45 → x ≡ judgedOf (cellEnd c s (p + 1)) (timeOf (45 ∷ body c s (p + 1))) → x ≡ judgedOf (cellEnd c s p) (timeOf (body c s p))
+    time-minus-sign m h = rw (body-solid c s p (omega arith) d (rw m), cellEnd-in s p (omega arith) c d) (rw m h)
 
-    pub time-of-day : isSpace (getD s p 0) ≡ false → (getD s p 0 ≡ 45 → ⊥) → x ≡ judgedOf (next c s p) (clockOf (body c s p)) → x ≡ judgedOf (next c s p) (timeOf (body c s p))
+    pub time-of-day : isSpace (getD s p 0) ≡ false → (getD s p 0 ≡ 45 → ⊥) → x ≡ judgedOf (cellEnd c s p) (clockOf (body c s p)) → x ≡ judgedOf (cellEnd c s p) (timeOf (body c s p))
     time-of-day n m h =
         let b = body-solid c s p (omega arith) d n in
         rw (b, time-clock (getD s p 0) (body c s (p + 1)) m) (rw b at h)
+
+-- ---- the kinds and their numbers are one table read both ways
+pub code-back : (k : Kind) → kindOf (codeOf k) ≡ k
+unfolding kindOf
+code-back measured = refl
+code-back latitude = refl
+code-back longitude = refl
+code-back depth = refl
+code-back flag = refl
+code-back ctdFlag = refl
+code-back expocode = refl
+code-back stnnbr = refl
+code-back castno = refl
+code-back date = refl
+code-back time = refl
+code-back free = refl
+
+pub kind-back : (n : ℕ) → n < 12 → codeOf (kindOf n) ≡ n
+unfolding kindOf
+kind-back zero h = refl
+kind-back (suc zero) h = refl
+kind-back (suc (suc zero)) h = refl
+kind-back (suc (suc (suc zero))) h = refl
+kind-back (suc (suc (suc (suc zero)))) h = refl
+kind-back (suc (suc (suc (suc (suc zero))))) h = refl
+kind-back (suc (suc (suc (suc (suc (suc zero)))))) h = refl
+kind-back (suc (suc (suc (suc (suc (suc (suc zero))))))) h = refl
+kind-back (suc (suc (suc (suc (suc (suc (suc (suc zero)))))))) h = refl
+kind-back (suc (suc (suc (suc (suc (suc (suc (suc (suc zero))))))))) h = refl
+kind-back (suc (suc (suc (suc (suc (suc (suc (suc (suc (suc zero)))))))))) h = refl
+kind-back (suc (suc (suc (suc (suc (suc (suc (suc (suc (suc (suc zero))))))))))) h = refl
+kind-back (suc (suc (suc (suc (suc (suc (suc (suc (suc (suc (suc (suc n)))))))))))) h = absurd (omega arith)

@@ -15,8 +15,9 @@ use borrow.Author.Tests.{eq-eqb, ne-eqb, eqb-true, eqb-false, lt-ltb, le-ltb, lt
 use Rattle.text.specs.declared.Judged.{Judged}
 use Rattle.text.specs.declared.Reading.{Reading}
 use Rattle.text.specs.declared.Reading.the-variants.{Present, Missing, Refused}
-use Rattle.text.specs.Judge.{Kind, flag, ctdFlag, expocode, stnnbr, castno, date, time, free, kindOf}
-use Rattle.text.specs.Reading.{signed, doubleOf, isMissing, readNumber, isDecimal, readingOf}
+use Rattle.text.specs.Kinds.{Kind, flag, ctdFlag, expocode, stnnbr, castno, date, time, free, kindOf}
+use Rattle.text.specs.Verdicts.{signed}
+use Rattle.text.specs.Reading.{doubleOf, isMissing, readNumber, isDecimal, readingOf}
 use Rattle.text.proofs.DoubleLaws.{double-finite}
 
 -- ---- the number of a sign and a size

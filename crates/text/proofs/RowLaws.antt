@@ -1,8 +1,8 @@
 -- The cells of a line, judged one after the other.
-use Prim.Native.Nat.{ℕ, zero, suc, _+_, _-_, _≤_, _<_}
+use Prim.Native.Nat.{ℕ, _+_, _-_, _≤_, _<_}
 use mathlib.Core.Path.{_≡_, refl, sym, ap, subst, _∙_}
 use mathlib.Core.List.{List, [], _∷_}
-use mathlib.Core.Bool.{Bool, true, false, cond, _&&_, _||_}
+use mathlib.Core.Bool.{Bool, true, false, cond, _||_}
 use native.Mathlib.Numerals.{add-one}
 use native.Mathlib.Omega.{arith}
 use lib.ListN.{length, getD, set, drop, drop-of-length-le}
@@ -12,12 +12,14 @@ use borrow.Author.Tests.{eq-eqb, ne-eqb, eqb-true, eqb-false}
 use Rattle.text.specs.declared.Judged.{Judged}
 use Rattle.text.specs.declared.Keys.{Keys}
 use Rattle.text.specs.declared.CellsRead.{CellsRead}
-use Rattle.text.specs.Cells.{cellAt, next, pieces, lineAt, laterPieces}
-use Rattle.text.specs.Decimals.{Verdict, blank, wrong, outOfRange, good}
-use Rattle.text.specs.Judge.{kindOf, judge, judgedOf, numberOf, stopsAt, judgedAt}
-use Rattle.text.specs.Rows.{isGood, sizeOf, missingIn, noted, noKeys, endedAt, noCells, isLast, cellsFrom, cellsAt, share, keysIn}
-use Rattle.text.specs.Scans.{Stop}
-use Rattle.text.proofs.CellLaws.{next-parts, pieces-last, pieces-more, stop-holds}
+use Rattle.text.specs.Cells.{cellAt, cellEnd, pieces, lineAt, laterPieces}
+use Rattle.text.specs.Verdicts.{Verdict, blank, wrong, outOfRange, good, numberOf, isGood, sizeOf}
+use Rattle.text.specs.Kinds.{kindOf}
+use Rattle.text.specs.Judge.{judge, judgedOf, stopsAt, judgedAt}
+use Rattle.text.specs.Rows.{missingIn, noted, noKeys, endedAt, noCells, isLast, cellsFrom, cellsAt}
+use Rattle.text.specs.Inner.Rows.{share, keysIn}
+use Rattle.text.specs.Inner.Scans.{Stop}
+use Rattle.text.proofs.CellLaws.{cellEnd-parts, pieces-last, pieces-more}
 use Rattle.text.proofs.JudgeLaws.{judged-number, judged-at, judged-good}
 
 -- ---- the keys as five numbers
@@ -132,15 +134,15 @@ module _ (i : ℕ) (kinds s : List ℕ) (c : ℕ) where
   unfolding cellsFrom
   left-none at k m w h = rw (drop-of-length-le kinds h)
 
-  module _ (at k m : ℕ) (w : Keys) (e : ℕ) (t : Stop c s at e) (h : k < length kinds) (j : Judged) (ej : j ≡ judgedOf (next c s at) (judge (kindOf (getD kinds k 0)) (cellAt c s at))) where
+  module _ (at k m : ℕ) (w : Keys) (e : ℕ) (t : Stop c s at e) (h : k < length kinds) (j : Judged) (ej : j ≡ judgedOf (cellEnd c s at) (judge (kindOf (getD kinds k 0)) (cellAt c s at))) where
     kinds-on : drop k kinds ≡ getD kinds k 0 ∷ drop (k + 1) kinds
     kinds-on = rw (add-one k) (drop-cons kinds k 0 h)
 
-    pub ends-at : j .at ≡ next c s at
-    ends-at = at-is (next c s at) 0 (judge (kindOf (getD kinds k 0)) (cellAt c s at)) j ej
+    pub ends-at : j .at ≡ cellEnd c s at
+    ends-at = at-is (cellEnd c s at) 0 (judge (kindOf (getD kinds k 0)) (cellAt c s at)) j ej
 
     judged-there : j ≡ judgedOf (at + length (cellAt c s at)) (judge (kindOf (getD kinds k 0)) (cellAt c s at))
-    unfolding next
+    unfolding cellEnd
     judged-there = ej
 
     refused : (j .number ≡ 0 → ⊥) → left at k m w ≡ endedAt at k m w j
@@ -175,13 +177,13 @@ module _ (i : ℕ) (kinds s : List ℕ) (c : ℕ) where
 
       pub left-on : (getD s (j .at) 0 ≡ 10 → ⊥) → (k + 1 ≡ length kinds → ⊥) → left at k m w ≡ left (j .at + 1) (k + 1) m' w'
       left-on f n =
-          let fn : getD s (next c s at) 0 ≡ 10 → ⊥ = λ z. f (subst (λ (q : ℕ). getD s q 0 ≡ 10) (sym ends-at) z) in
-          let p : getD s (next c s at) 0 ≡ c = next-parts t fn in
-          let more : pieces c (lineAt s at) ≡ cellAt c s at ∷ pieces c (lineAt s (next c s at + 1)) = pieces-more t (λ z. fn (p ∙ z)) p in
+          let fn : getD s (cellEnd c s at) 0 ≡ 10 → ⊥ = λ z. f (subst (λ (q : ℕ). getD s q 0 ≡ 10) (sym ends-at) z) in
+          let p : getD s (cellEnd c s at) 0 ≡ c = cellEnd-parts t fn in
+          let more : pieces c (lineAt s at) ≡ cellAt c s at ∷ pieces c (lineAt s (cellEnd c s at + 1)) = pieces-more t (λ z. fn (p ∙ z)) p in
           ap (λ (x : List ℕ). cellsFrom i at k m w x (pieces c (lineAt s at))) kinds-on
           ∙ ap (cellsFrom i at k m w (getD kinds k 0 ∷ drop (k + 1) kinds)) more
-          ∙ from-on i at k m w (getD kinds k 0) (drop (k + 1) kinds) (cellAt c s at) (pieces c (lineAt s (next c s at + 1))) j judged-there z m' em w' ew
-          (more-list (drop (k + 1) kinds) (pieces c (lineAt s (next c s at + 1))) (kinds-left n) (omega arith))
+          ∙ from-on i at k m w (getD kinds k 0) (drop (k + 1) kinds) (cellAt c s at) (pieces c (lineAt s (cellEnd c s at + 1))) j judged-there z m' em w' ew
+          (more-list (drop (k + 1) kinds) (pieces c (lineAt s (cellEnd c s at + 1))) (kinds-left n) (omega arith))
           ∙ ap (λ (q : ℕ). cellsFrom i (j .at + 1) (k + 1) m' w' (drop (k + 1) kinds) (pieces c (lineAt s (q + 1)))) (sym ends-at)
         where
           kinds-left : (k + 1 ≡ length kinds → ⊥) → 0 < length (drop (k + 1) kinds)
@@ -208,7 +210,7 @@ module _ (i : ℕ) (kinds s : List ℕ) (c : ℕ) where
 -- ---- one cell by itself
 pub one-cell : (k c : ℕ) (s : List ℕ) (i e : ℕ) (r : CellsRead) → r ≡ cellsAt (k ∷ []) c s i e
     → _≡_ {A = Judged} (record { at = r .at; number = r .number; minus = r .minus; size = r .size; decimals = r .decimals }) (judgedAt k c s i e)
-unfolding cellsAt judgedAt next cellsFrom
+unfolding cellsAt judgedAt cellEnd cellsFrom
 one-cell k c s i e r h = rw h (go (stopsAt c s i e) (isGood (judge (kindOf k) (cellAt c s i))))
   where
     v : Verdict

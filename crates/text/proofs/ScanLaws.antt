@@ -12,12 +12,12 @@ use lib.Dec.{eqb, leb}
 use borrow.Author.Tests.{eqb-true, ne-eqb, leb-true, le-leb, lt-leb, not-true, not-false}
 use Rattle.text.specs.declared.Judged.{Judged}
 use Rattle.text.specs.Bytes.{isSpace, isDigit}
-use Rattle.text.specs.Cells.{cellAt, next, separates}
-use Rattle.text.specs.Spaces.{lead, keep, back, trim}
-use Rattle.text.specs.Decimals.{Verdict, blank, wrong}
+use Rattle.text.specs.Cells.{cellAt, cellEnd, separates}
+use Rattle.text.specs.Spaces.{trimFront, keep, trimEnd, trim}
+use Rattle.text.specs.Verdicts.{Verdict, blank, wrong}
 use Rattle.text.specs.Judge.{keyByte, unlessBlank, judgedOf}
-use Rattle.text.specs.Scans.{Stop, Scan, Written, Spaced, isEnd, wordByte, body, closing}
-use Rattle.text.proofs.CellLaws.{both-true, inside-cell, stop-inside, cell-in, cell-end, next-in, next-end}
+use Rattle.text.specs.Inner.Scans.{Stop, Scan, Written, Spaced, wordByte, body, closing}
+use Rattle.text.proofs.CellLaws.{isEnd, both-true, inside-cell, stop-inside, cell-in, cell-end, cellEnd-in, cellEnd-end}
 
 -- ---- the bytes of a run
 pub digit-yes : (x : ℕ) → 48 ≤ x → x ≤ 57 → isDigit x ≡ true
@@ -58,11 +58,11 @@ keep-first x (y ∷ t) = inr (y ∷ t, refl)
 
 module _ (c : ℕ) (s : List ℕ) (p : ℕ) (l : p < length s) where
   body-keep : isEnd c (getD s p 0) ≡ false → body c s p ≡ keep (getD s p 0) (body c s (p + 1))
-  unfolding body back
+  unfolding body trimEnd
   body-keep e = rw (cell-in s p l c e)
 
   pub body-end : isEnd c (getD s p 0) ≡ true → body c s p ≡ []
-  unfolding body back
+  unfolding body trimEnd
   body-end e = rw (cell-end s p l c e)
 
   pub body-solid : isEnd c (getD s p 0) ≡ false → isSpace (getD s p 0) ≡ false → body c s p ≡ getD s p 0 ∷ body c s (p + 1)
@@ -93,9 +93,9 @@ module _ {c : ℕ} {s : List ℕ} {j e : ℕ} (t : Stop c s j e) where
   space-within p d = space-inside c (getD s p 0) (t .parts) d
 
   -- ---- spaces
-  next-spaces : {i q : ℕ} → Scan isSpace s i q → next c s i ≡ next c s q
-  next-spaces {i} {q} r =
-      scan-undo (λ (p : ℕ). next c s p ≡ next c s q) (λ p l d x. next-in s p l c (space-within p d) ∙ x) r refl
+  cellEnd-spaces : {i q : ℕ} → Scan isSpace s i q → cellEnd c s i ≡ cellEnd c s q
+  cellEnd-spaces {i} {q} r =
+      scan-undo (λ (p : ℕ). cellEnd c s p ≡ cellEnd c s q) (λ p l d x. cellEnd-in s p l c (space-within p d) ∙ x) r refl
 
   -- only spaces are left
   body-spaces : {i q : ℕ} → Scan isSpace s i q → body c s q ≡ [] → body c s i ≡ []
@@ -113,54 +113,54 @@ module _ {c : ℕ} {s : List ℕ} {j e : ℕ} (t : Stop c s j e) where
       one p l d (ys, x) = (getD s (p + 1) 0 ∷ ys, body-keep c s p l (space-within p d) ∙ rw x)
 
   -- ---- digits
-  pub next-digits : {i v q n w : ℕ} → Written s i v q n w → next c s i ≡ next c s q
-  next-digits Written.still = refl
-  next-digits (Written.more {q} r l d) = next-digits r ∙ next-in s q l c (digit-inside c (getD s q 0) (t .parts) d)
+  pub cellEnd-digits : {i v q n w : ℕ} → Written s i v q n w → cellEnd c s i ≡ cellEnd c s q
+  cellEnd-digits Written.still = refl
+  cellEnd-digits (Written.more {q} r l d) = cellEnd-digits r ∙ cellEnd-in s q l c (digit-inside c (getD s q 0) (t .parts) d)
 
   pub body-digit : (q : ℕ) → q < length s → isDigit (getD s q 0) ≡ true → body c s q ≡ getD s q 0 ∷ body c s (q + 1)
   body-digit q l d = body-solid c s q l (digit-inside c (getD s q 0) (t .parts) d) (digit-solid (getD s q 0) d)
 
 -- ---- a cell after its spaces: blank, or judged by what is left of it
-lead-keep : (x : ℕ) (t : List ℕ) → isSpace x ≡ true → lead (keep x t) ≡ lead t
-unfolding lead keep
-lead-keep x [] e = rw e
-lead-keep x (y ∷ t) e = rw e
+trimFront-keep : (x : ℕ) (t : List ℕ) → isSpace x ≡ true → trimFront (keep x t) ≡ trimFront t
+unfolding trimFront keep
+trimFront-keep x [] e = rw e
+trimFront-keep x (y ∷ t) e = rw e
 
-lead-solid : (x : ℕ) (t : List ℕ) → isSpace x ≡ false → lead (x ∷ t) ≡ x ∷ t
-unfolding lead
-lead-solid x t e = rw e
+trimFront-solid : (x : ℕ) (t : List ℕ) → isSpace x ≡ false → trimFront (x ∷ t) ≡ x ∷ t
+unfolding trimFront
+trimFront-solid x t e = rw e
 
 module _ {c : ℕ} {s : List ℕ} {i e a : ℕ} (t : Stop c s i e) (r : Spaced s i e a) where
-  trim-spaces : trim (cellAt c s i) ≡ lead (body c s a)
+  trim-spaces : trim (cellAt c s i) ≡ trimFront (body c s a)
   unfolding trim body
-  trim-spaces = scan-undo (λ (p : ℕ). lead (body c s p) ≡ lead (body c s a)) one (r .over) refl
+  trim-spaces = scan-undo (λ (p : ℕ). trimFront (body c s p) ≡ trimFront (body c s a)) one (r .over) refl
     where
-      one : (p : ℕ) → p < length s → isSpace (getD s p 0) ≡ true → lead (body c s (p + 1)) ≡ lead (body c s a)
-          → lead (body c s p) ≡ lead (body c s a)
-      one p l d x = rw (body-keep c s p l (space-within t p d)) (lead-keep (getD s p 0) (body c s (p + 1)) d ∙ x)
+      one : (p : ℕ) → p < length s → isSpace (getD s p 0) ≡ true → trimFront (body c s (p + 1)) ≡ trimFront (body c s a)
+          → trimFront (body c s p) ≡ trimFront (body c s a)
+      one p l d x = rw (body-keep c s p l (space-within t p d)) (trimFront-keep (getD s p 0) (body c s (p + 1)) d ∙ x)
 
   module _ (f : List ℕ → Verdict) (x : Judged) where
-    pub judged-blank : isEnd c (getD s a 0) ≡ true → x ≡ judgedOf (next c s a) blank
-        → x ≡ judgedOf (next c s i) (unlessBlank f (trim (cellAt c s i)))
-    unfolding lead
-    judged-blank d h = rw (trim-spaces, body-end c s a (omega arith) d, next-spaces t (r .over)) h
+    pub judged-blank : isEnd c (getD s a 0) ≡ true → x ≡ judgedOf (cellEnd c s a) blank
+        → x ≡ judgedOf (cellEnd c s i) (unlessBlank f (trim (cellAt c s i)))
+    unfolding trimFront
+    judged-blank d h = rw (trim-spaces, body-end c s a (omega arith) d, cellEnd-spaces t (r .over)) h
 
-    pub judged-solid : isEnd c (getD s a 0) ≡ false → x ≡ judgedOf (next c s a) (f (body c s a))
-        → x ≡ judgedOf (next c s i) (unlessBlank f (trim (cellAt c s i)))
+    pub judged-solid : isEnd c (getD s a 0) ≡ false → x ≡ judgedOf (cellEnd c s a) (f (body c s a))
+        → x ≡ judgedOf (cellEnd c s i) (unlessBlank f (trim (cellAt c s i)))
     judged-solid d h =
         let b = body-solid c s a (omega arith) d (r .stops) in
-        rw (trim-spaces, b, lead-solid (getD s a 0) (body c s (a + 1)) (r .stops), next-spaces t (r .over)) (rw b at h)
+        rw (trim-spaces, b, trimFront-solid (getD s a 0) (body c s (a + 1)) (r .stops), cellEnd-spaces t (r .over)) (rw b at h)
 
   -- ---- the spaces after a cell's text: nothing is left, or something else
   module _ (v : Verdict) (x : Judged) where
-    pub closed-good : isEnd c (getD s a 0) ≡ true → x ≡ judgedOf a v → x ≡ judgedOf (next c s i) (closing v (body c s i))
+    pub closed-good : isEnd c (getD s a 0) ≡ true → x ≡ judgedOf a v → x ≡ judgedOf (cellEnd c s i) (closing v (body c s i))
     closed-good d h =
-        rw (body-spaces t (r .over) (body-end c s a (omega arith) d), next-spaces t (r .over), next-end s a (omega arith) c d) h
+        rw (body-spaces t (r .over) (body-end c s a (omega arith) d), cellEnd-spaces t (r .over), cellEnd-end s a (omega arith) c d) h
 
-    pub closed-wrong : isEnd c (getD s a 0) ≡ false → x ≡ judgedOf (next c s a) wrong → x ≡ judgedOf (next c s i) (closing v (body c s i))
+    pub closed-wrong : isEnd c (getD s a 0) ≡ false → x ≡ judgedOf (cellEnd c s a) wrong → x ≡ judgedOf (cellEnd c s i) (closing v (body c s i))
     closed-wrong d h =
         let o = opens-spaces t (r .over) (body c s (a + 1), body-solid c s a (omega arith) d (r .stops)) in
-        rw (o .1, next-spaces t (r .over)) h
+        rw (o .1, cellEnd-spaces t (r .over)) h
 
 -- ---- a word
 pub word-inside : (c x : ℕ) → wordByte c x ≡ true → (isEnd c x ≡ false) × (isSpace x ≡ false) × (keyByte x ≡ true)

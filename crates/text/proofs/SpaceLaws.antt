@@ -13,53 +13,53 @@ use lib.Dec.{leb}
 use borrow.Author.Tests.{eq-eqb, ne-eqb, le-leb, lt-leb, leb-true, not-true}
 use Rattle.text.specs.declared.Span.{Span}
 use Rattle.text.specs.Bytes.{isSpace, every}
-use Rattle.text.specs.Spaces.{lead, keep, back, trim, indent, trimSpan}
+use Rattle.text.specs.Spaces.{trimFront, keep, trimEnd, trim, indent, trimSpan}
 use Rattle.text.proofs.EveryLaws.{every-cons}
 
 -- ---- one byte at the front or at the end
-pub lead-space : (x : ℕ) (xs : List ℕ) → isSpace x ≡ true → lead (x ∷ xs) ≡ lead xs
-unfolding lead
-lead-space x xs e = rw e
+pub trimFront-space : (x : ℕ) (xs : List ℕ) → isSpace x ≡ true → trimFront (x ∷ xs) ≡ trimFront xs
+unfolding trimFront
+trimFront-space x xs e = rw e
 
-pub lead-other : (x : ℕ) (xs : List ℕ) → isSpace x ≡ false → lead (x ∷ xs) ≡ x ∷ xs
-unfolding lead
-lead-other x xs e = rw e
+pub trimFront-other : (x : ℕ) (xs : List ℕ) → isSpace x ≡ false → trimFront (x ∷ xs) ≡ x ∷ xs
+unfolding trimFront
+trimFront-other x xs e = rw e
 
-pub back-space : (xs : List ℕ) (x : ℕ) → isSpace x ≡ true → back (xs ++ x ∷ []) ≡ back xs
-unfolding back keep
-back-space [] x e = rw e
-back-space (y ∷ ys) x e = ap (keep y) (back-space ys x e)
+pub trimEnd-space : (xs : List ℕ) (x : ℕ) → isSpace x ≡ true → trimEnd (xs ++ x ∷ []) ≡ trimEnd xs
+unfolding trimEnd keep
+trimEnd-space [] x e = rw e
+trimEnd-space (y ∷ ys) x e = ap (keep y) (trimEnd-space ys x e)
 
 keep-cons : (x : ℕ) (ys : List ℕ) (y : ℕ) → keep x (ys ++ y ∷ []) ≡ x ∷ (ys ++ y ∷ [])
 unfolding keep
 keep-cons x [] y = refl
 keep-cons x (z ∷ zs) y = refl
 
-pub back-other : (xs : List ℕ) (x : ℕ) → isSpace x ≡ false → back (xs ++ x ∷ []) ≡ xs ++ x ∷ []
-unfolding back keep
-back-other [] x e = rw e
-back-other (y ∷ ys) x e = ap (keep y) (back-other ys x e) ∙ keep-cons y ys x
+pub trimEnd-other : (xs : List ℕ) (x : ℕ) → isSpace x ≡ false → trimEnd (xs ++ x ∷ []) ≡ xs ++ x ∷ []
+unfolding trimEnd keep
+trimEnd-other [] x e = rw e
+trimEnd-other (y ∷ ys) x e = ap (keep y) (trimEnd-other ys x e) ∙ keep-cons y ys x
 
 -- ---- the two ends do not depend on each other
-lead-keep : (x : ℕ) (l : List ℕ) → isSpace x ≡ false → lead (keep x l) ≡ keep x l
+trimFront-keep : (x : ℕ) (l : List ℕ) → isSpace x ≡ false → trimFront (keep x l) ≡ keep x l
 unfolding keep
-lead-keep x [] e = rw e (lead-other x [] e)
-lead-keep x (y ∷ ys) e = lead-other x (y ∷ ys) e
+trimFront-keep x [] e = rw e (trimFront-other x [] e)
+trimFront-keep x (y ∷ ys) e = trimFront-other x (y ∷ ys) e
 
-lead-keep-space : (x : ℕ) (l : List ℕ) → isSpace x ≡ true → lead (keep x l) ≡ lead l
+trimFront-keep-space : (x : ℕ) (l : List ℕ) → isSpace x ≡ true → trimFront (keep x l) ≡ trimFront l
 unfolding keep
-lead-keep-space x [] e = rw e
-lead-keep-space x (y ∷ ys) e = lead-space x (y ∷ ys) e
+trimFront-keep-space x [] e = rw e
+trimFront-keep-space x (y ∷ ys) e = trimFront-space x (y ∷ ys) e
 
-lead-back-by : (x : ℕ) (xs : List ℕ) (b : Bool) → isSpace x ≡ b → lead (back xs) ≡ back (lead xs) → lead (keep x (back xs)) ≡ back (cond b (lead xs) (x ∷ xs))
-unfolding back
-lead-back-by x xs true e h = lead-keep-space x (back xs) e ∙ h
-lead-back-by x xs false e h = lead-keep x (back xs) e
+trimFront-trimEnd-by : (x : ℕ) (xs : List ℕ) (b : Bool) → isSpace x ≡ b → trimFront (trimEnd xs) ≡ trimEnd (trimFront xs) → trimFront (keep x (trimEnd xs)) ≡ trimEnd (cond b (trimFront xs) (x ∷ xs))
+unfolding trimEnd
+trimFront-trimEnd-by x xs true e h = trimFront-keep-space x (trimEnd xs) e ∙ h
+trimFront-trimEnd-by x xs false e h = trimFront-keep x (trimEnd xs) e
 
-pub lead-back : (t : List ℕ) → lead (back t) ≡ back (lead t)
-unfolding back lead
-lead-back [] = refl
-lead-back (x ∷ xs) = lead-back-by x xs (isSpace x) refl (lead-back xs)
+pub trimFront-trimEnd : (t : List ℕ) → trimFront (trimEnd t) ≡ trimEnd (trimFront t)
+unfolding trimEnd trimFront
+trimFront-trimEnd [] = refl
+trimFront-trimEnd (x ∷ xs) = trimFront-trimEnd-by x xs (isSpace x) refl (trimFront-trimEnd xs)
 
 -- ---- lengths, and what is left as a part of the text
 keep-take : (x : ℕ) (xs l : List ℕ) → l ≡ take (length l) xs → keep x l ≡ take (length (keep x l)) (x ∷ xs)
@@ -71,33 +71,33 @@ keep-take x xs [] h = by (isSpace x)
     by false = refl
 keep-take x xs (y ∷ ys) h = ap (_∷_ x) h
 
-pub back-take : (t : List ℕ) → back t ≡ take (length (back t)) t
-unfolding back
-back-take [] = refl
-back-take (x ∷ xs) = keep-take x xs (back xs) (back-take xs)
+pub trimEnd-take : (t : List ℕ) → trimEnd t ≡ take (length (trimEnd t)) t
+unfolding trimEnd
+trimEnd-take [] = refl
+trimEnd-take (x ∷ xs) = keep-take x xs (trimEnd xs) (trimEnd-take xs)
 
-pub back-length : (t : List ℕ) → length (back t) ≤ length t
-back-length t = omega (arith, simp length-take at (ap length (back-take t)))
+pub trimEnd-length : (t : List ℕ) → length (trimEnd t) ≤ length t
+trimEnd-length t = omega (arith, simp length-take at (ap length (trimEnd-take t)))
 
-lead-length-by : (x : ℕ) (xs : List ℕ) (b : Bool) → length (lead xs) ≤ length xs → length (cond b (lead xs) (x ∷ xs)) ≤ suc (length xs)
-lead-length-by x xs true h = omega arith
-lead-length-by x xs false h = le-refl _
+trimFront-length-by : (x : ℕ) (xs : List ℕ) (b : Bool) → length (trimFront xs) ≤ length xs → length (cond b (trimFront xs) (x ∷ xs)) ≤ suc (length xs)
+trimFront-length-by x xs true h = omega arith
+trimFront-length-by x xs false h = le-refl _
 
-pub lead-length : (t : List ℕ) → length (lead t) ≤ length t
-unfolding lead
-lead-length [] = le-refl 0
-lead-length (x ∷ xs) = lead-length-by x xs (isSpace x) (lead-length xs)
+pub trimFront-length : (t : List ℕ) → length (trimFront t) ≤ length t
+unfolding trimFront
+trimFront-length [] = le-refl 0
+trimFront-length (x ∷ xs) = trimFront-length-by x xs (isSpace x) (trimFront-length xs)
 
-lead-drop-by : (x : ℕ) (xs : List ℕ) (b : Bool) → lead xs ≡ drop (length xs - length (lead xs)) xs → cond b (lead xs) (x ∷ xs) ≡ drop (suc (length xs) - length (cond b (lead xs) (x ∷ xs))) (x ∷ xs)
-lead-drop-by x xs true h =
-    let e : suc (length xs) - length (lead xs) ≡ suc (length xs - length (lead xs)) = omega (arith, lead-length xs) in
+trimFront-drop-by : (x : ℕ) (xs : List ℕ) (b : Bool) → trimFront xs ≡ drop (length xs - length (trimFront xs)) xs → cond b (trimFront xs) (x ∷ xs) ≡ drop (suc (length xs) - length (cond b (trimFront xs) (x ∷ xs))) (x ∷ xs)
+trimFront-drop-by x xs true h =
+    let e : suc (length xs) - length (trimFront xs) ≡ suc (length xs - length (trimFront xs)) = omega (arith, trimFront-length xs) in
     rw e h
-lead-drop-by x xs false h = rw (sub-self (suc (length xs)))
+trimFront-drop-by x xs false h = rw (sub-self (suc (length xs)))
 
-pub lead-drop : (t : List ℕ) → lead t ≡ drop (length t - length (lead t)) t
-unfolding lead
-lead-drop [] = refl
-lead-drop (x ∷ xs) = lead-drop-by x xs (isSpace x) (lead-drop xs)
+pub trimFront-drop : (t : List ℕ) → trimFront t ≡ drop (length t - length (trimFront t)) t
+unfolding trimFront
+trimFront-drop [] = refl
+trimFront-drop (x ∷ xs) = trimFront-drop-by x xs (isSpace x) (trimFront-drop xs)
 
 -- a part by its start and its length
 pub slice-take : (f t : ℕ) (l : List ℕ) → slice f t l ≡ take (t - f) (drop f l)
@@ -108,51 +108,51 @@ slice-take (suc f) (suc t) (x ∷ xs) = let e : suc t - suc f ≡ t - f = omega 
 
 pub trim-fits : (t : List ℕ) → indent t + length (trim t) ≤ length t
 unfolding indent trim
-trim-fits t = omega (arith, lead-length (back t), back-length t)
+trim-fits t = omega (arith, trimFront-length (trimEnd t), trimEnd-length t)
 
 pub trim-part : (t : List ℕ) → trim t ≡ take (length (trim t)) (drop (indent t) t)
 unfolding indent trim
 trim-part t =
-    let n = length (back t) in
-    let k = n - length (lead (back t)) in
-    let e : n - k ≡ length (lead (back t)) = omega (arith, lead-length (back t)) in
-    lead-drop (back t) ∙ ap (drop k) (back-take t) ∙ slice-take k n t ∙ ap (λ (m : ℕ). take m (drop k t)) e
+    let n = length (trimEnd t) in
+    let k = n - length (trimFront (trimEnd t)) in
+    let e : n - k ≡ length (trimFront (trimEnd t)) = omega (arith, trimFront-length (trimEnd t)) in
+    trimFront-drop (trimEnd t) ∙ ap (drop k) (trimEnd-take t) ∙ slice-take k n t ∙ ap (λ (m : ℕ). take m (drop k t)) e
 
 -- ---- a trimmed text has no space at either end
-lead-lead-by : (x : ℕ) (xs : List ℕ) (b : Bool) → isSpace x ≡ b → lead (lead xs) ≡ lead xs → lead (cond b (lead xs) (x ∷ xs)) ≡ cond b (lead xs) (x ∷ xs)
-lead-lead-by x xs true e h = h
-lead-lead-by x xs false e h = lead-other x xs e
+trimFront-trimFront-by : (x : ℕ) (xs : List ℕ) (b : Bool) → isSpace x ≡ b → trimFront (trimFront xs) ≡ trimFront xs → trimFront (cond b (trimFront xs) (x ∷ xs)) ≡ cond b (trimFront xs) (x ∷ xs)
+trimFront-trimFront-by x xs true e h = h
+trimFront-trimFront-by x xs false e h = trimFront-other x xs e
 
-lead-lead : (t : List ℕ) → lead (lead t) ≡ lead t
-unfolding lead
-lead-lead [] = refl
-lead-lead (x ∷ xs) = lead-lead-by x xs (isSpace x) refl (lead-lead xs)
+trimFront-trimFront : (t : List ℕ) → trimFront (trimFront t) ≡ trimFront t
+unfolding trimFront
+trimFront-trimFront [] = refl
+trimFront-trimFront (x ∷ xs) = trimFront-trimFront-by x xs (isSpace x) refl (trimFront-trimFront xs)
 
-back-keep : (x : ℕ) (l : List ℕ) → back l ≡ l → back (keep x l) ≡ keep x l
-unfolding back keep
-back-keep x [] h = by (isSpace x) refl
+trimEnd-keep : (x : ℕ) (l : List ℕ) → trimEnd l ≡ l → trimEnd (keep x l) ≡ keep x l
+unfolding trimEnd keep
+trimEnd-keep x [] h = by (isSpace x) refl
   where
-    by : (b : Bool) → isSpace x ≡ b → back (cond b [] (x ∷ [])) ≡ cond b [] (x ∷ [])
+    by : (b : Bool) → isSpace x ≡ b → trimEnd (cond b [] (x ∷ [])) ≡ cond b [] (x ∷ [])
     by true e = refl
     by false e = rw e
-back-keep x (y ∷ ys) h = ap (keep x) h
+trimEnd-keep x (y ∷ ys) h = ap (keep x) h
 
-back-back : (t : List ℕ) → back (back t) ≡ back t
-unfolding back
-back-back [] = refl
-back-back (x ∷ xs) = back-keep x (back xs) (back-back xs)
+trimEnd-trimEnd : (t : List ℕ) → trimEnd (trimEnd t) ≡ trimEnd t
+unfolding trimEnd
+trimEnd-trimEnd [] = refl
+trimEnd-trimEnd (x ∷ xs) = trimEnd-keep x (trimEnd xs) (trimEnd-trimEnd xs)
 
-pub trim-lead : (t : List ℕ) → lead (trim t) ≡ trim t
+pub trim-trimFront : (t : List ℕ) → trimFront (trim t) ≡ trim t
 unfolding trim
-trim-lead t = lead-lead (back t)
+trim-trimFront t = trimFront-trimFront (trimEnd t)
 
-pub trim-back : (t : List ℕ) → back (trim t) ≡ trim t
+pub trim-trimEnd : (t : List ℕ) → trimEnd (trim t) ≡ trim t
 unfolding trim
-trim-back t = sym (lead-back (back t)) ∙ ap lead (back-back t)
+trim-trimEnd t = sym (trimFront-trimEnd (trimEnd t)) ∙ ap trimFront (trimEnd-trimEnd t)
 
 pub trim-trim : (t : List ℕ) → trim (trim t) ≡ trim t
 unfolding trim
-trim-trim t = ap lead (trim-back t) ∙ trim-lead t
+trim-trim t = ap trimFront (trim-trimEnd t) ∙ trim-trimFront t
 
 no-space : (b : Bool) → (b ≡ true → ⊥) → b ≡ false
 no-space true f = absurd (f refl)
@@ -161,14 +161,14 @@ no-space false f = refl
 pub trim-first : (t : List ℕ) (x : ℕ) (xs : List ℕ) → trim t ≡ x ∷ xs → isSpace x ≡ false
 trim-first t x xs e =
     no-space (isSpace x) (λ h.
-    let l : lead xs ≡ x ∷ xs = sym (lead-space x xs h) ∙ (rw e at (trim-lead t)) in
-    omega (arith, lead-length xs, ap length l))
+    let l : trimFront xs ≡ x ∷ xs = sym (trimFront-space x xs h) ∙ (rw e at (trim-trimFront t)) in
+    omega (arith, trimFront-length xs, ap length l))
 
 pub trim-last : (t xs : List ℕ) (x : ℕ) → trim t ≡ xs ++ x ∷ [] → isSpace x ≡ false
 trim-last t xs x e =
     no-space (isSpace x) (λ h.
-    let l : back xs ≡ xs ++ x ∷ [] = sym (back-space xs x h) ∙ (rw e at (trim-back t)) in
-    omega (arith, back-length xs, simp length-append at (ap length l)))
+    let l : trimEnd xs ≡ xs ++ x ∷ [] = sym (trimEnd-space xs x h) ∙ (rw e at (trim-trimEnd t)) in
+    omega (arith, trimEnd-length xs, simp length-append at (ap length l)))
 
 -- ---- a text of spaces is trimmed to nothing, and one without is left as it is
 keep-full : (x : ℕ) (l : List ℕ) → isSpace x ≡ false → keep x l ≡ x ∷ l
@@ -176,23 +176,23 @@ unfolding keep
 keep-full x [] e = rw e
 keep-full x (y ∷ ys) e = refl
 
-blank-by : (x : ℕ) (xs : List ℕ) (b : Bool) → isSpace x ≡ b → (lead (back xs) ≡ [] → every isSpace xs ≡ true) → lead (keep x (back xs)) ≡ [] → b && every isSpace xs ≡ true
-blank-by x xs true e f h = f (sym (lead-keep-space x (back xs) e) ∙ h)
+blank-by : (x : ℕ) (xs : List ℕ) (b : Bool) → isSpace x ≡ b → (trimFront (trimEnd xs) ≡ [] → every isSpace xs ≡ true) → trimFront (keep x (trimEnd xs)) ≡ [] → b && every isSpace xs ≡ true
+blank-by x xs true e f h = f (sym (trimFront-keep-space x (trimEnd xs) e) ∙ h)
 blank-by x xs false e f h =
-    let l = ap length (sym (keep-full x (back xs) e) ∙ sym (lead-keep x (back xs) e) ∙ h) in
+    let l = ap length (sym (keep-full x (trimEnd xs) e) ∙ sym (trimFront-keep x (trimEnd xs) e) ∙ h) in
     absurd (omega arith)
 
-blank-spaces : (t : List ℕ) → lead (back t) ≡ [] → every isSpace t ≡ true
-unfolding back every
+blank-spaces : (t : List ℕ) → trimFront (trimEnd t) ≡ [] → every isSpace t ≡ true
+unfolding trimEnd every
 blank-spaces [] h = refl
 blank-spaces (x ∷ xs) h = blank-by x xs (isSpace x) refl (blank-spaces xs) h
 
-spaces-blank : (t : List ℕ) → every isSpace t ≡ true → lead (back t) ≡ []
-unfolding back lead
+spaces-blank : (t : List ℕ) → every isSpace t ≡ true → trimFront (trimEnd t) ≡ []
+unfolding trimEnd trimFront
 spaces-blank [] h = refl
 spaces-blank (x ∷ xs) h =
     let w = every-cons isSpace x xs h in
-    lead-keep-space x (back xs) (w .0) ∙ spaces-blank xs (w .1)
+    trimFront-keep-space x (trimEnd xs) (w .0) ∙ spaces-blank xs (w .1)
 
 pub trim-blank : (t : List ℕ) → (trim t ≡ []) ↔ (every isSpace t ≡ true)
 unfolding trim
@@ -201,38 +201,38 @@ trim-blank t = (blank-spaces t, spaces-blank t)
 abbrev pub isSolid : ℕ → Bool
 isSolid x = not (isSpace x)
 
-lead-solid : (t : List ℕ) → every isSolid t ≡ true → lead t ≡ t
-unfolding lead
-lead-solid [] h = refl
-lead-solid (x ∷ xs) h = lead-other x xs (not-true (isSpace x) (every-cons isSolid x xs h .0))
+trimFront-solid : (t : List ℕ) → every isSolid t ≡ true → trimFront t ≡ t
+unfolding trimFront
+trimFront-solid [] h = refl
+trimFront-solid (x ∷ xs) h = trimFront-other x xs (not-true (isSpace x) (every-cons isSolid x xs h .0))
 
-back-solid : (t : List ℕ) → every isSolid t ≡ true → back t ≡ t
-unfolding back
-back-solid [] h = refl
-back-solid (x ∷ xs) h =
+trimEnd-solid : (t : List ℕ) → every isSolid t ≡ true → trimEnd t ≡ t
+unfolding trimEnd
+trimEnd-solid [] h = refl
+trimEnd-solid (x ∷ xs) h =
     let w = every-cons isSolid x xs h in
-    ap (keep x) (back-solid xs (w .1)) ∙ keep-full x xs (not-true (isSpace x) (w .0))
+    ap (keep x) (trimEnd-solid xs (w .1)) ∙ keep-full x xs (not-true (isSpace x) (w .0))
 
 pub trim-solid : (t : List ℕ) → every isSolid t ≡ true → trim t ≡ t
 unfolding trim
-trim-solid t h = ap lead (back-solid t h) ∙ lead-solid t h
+trim-solid t h = ap trimFront (trimEnd-solid t h) ∙ trimFront-solid t h
 
 -- ---- spaces put at either end are trimmed
-lead-pad : (n : ℕ) (t : List ℕ) → lead (replicate n 32 ++ t) ≡ lead t
-lead-pad zero t = refl
-lead-pad (suc n) t = lead-space 32 (replicate n 32 ++ t) refl ∙ lead-pad n t
+trimFront-pad : (n : ℕ) (t : List ℕ) → trimFront (replicate n 32 ++ t) ≡ trimFront t
+trimFront-pad zero t = refl
+trimFront-pad (suc n) t = trimFront-space 32 (replicate n 32 ++ t) refl ∙ trimFront-pad n t
 
-back-pad : (n : ℕ) (t : List ℕ) → back (t ++ replicate n 32) ≡ back t
-back-pad zero t = rw append-nil
-back-pad (suc n) t = rw (← (append-snoc t 32 (replicate n 32))) (back-pad n (t ++ 32 ∷ []) ∙ back-space t 32 refl)
+trimEnd-pad : (n : ℕ) (t : List ℕ) → trimEnd (t ++ replicate n 32) ≡ trimEnd t
+trimEnd-pad zero t = rw append-nil
+trimEnd-pad (suc n) t = rw (← (append-snoc t 32 (replicate n 32))) (trimEnd-pad n (t ++ 32 ∷ []) ∙ trimEnd-space t 32 refl)
 
 pub trim-pad-front : (n : ℕ) (t : List ℕ) → trim (replicate n 32 ++ t) ≡ trim t
 unfolding trim
-trim-pad-front n t = lead-back (replicate n 32 ++ t) ∙ ap back (lead-pad n t) ∙ sym (lead-back t)
+trim-pad-front n t = trimFront-trimEnd (replicate n 32 ++ t) ∙ ap trimEnd (trimFront-pad n t) ∙ sym (trimFront-trimEnd t)
 
 pub trim-pad-end : (n : ℕ) (t : List ℕ) → trim (t ++ replicate n 32) ≡ trim t
 unfolding trim
-trim-pad-end n t = ap lead (back-pad n t)
+trim-pad-end n t = ap trimFront (trimEnd-pad n t)
 
 -- ---- by an index
 module _ (s : List ℕ) where
@@ -241,27 +241,27 @@ module _ (s : List ℕ) where
       let m : a ≤ length (take k s) = rw (length-take-le k s (omega arith)) h in
       rw (take-suc s k 0 l, drop-append-le a (take k s) (getD s k 0 ∷ []) m)
 
-  pub back-stop : (a j : ℕ) → a < j → j ≤ length s → (getD s (j - 1) 0 ≡ 32 → ⊥) → back (slice a j s) ≡ slice a j s
-  back-stop a zero h l f = absurd (not-suc-le-zero h)
-  back-stop a (suc k) h l f = rw (slice-snoc a k (omega arith) l) (back-other (slice a k s) (getD s k 0) (ne-eqb _ 32 (rw sub-one at f)))
+  pub trimEnd-stop : (a j : ℕ) → a < j → j ≤ length s → (getD s (j - 1) 0 ≡ 32 → ⊥) → trimEnd (slice a j s) ≡ slice a j s
+  trimEnd-stop a zero h l f = absurd (not-suc-le-zero h)
+  trimEnd-stop a (suc k) h l f = rw (slice-snoc a k (omega arith) l) (trimEnd-other (slice a k s) (getD s k 0) (ne-eqb _ 32 (rw sub-one at f)))
 
-  pub back-step : (a j : ℕ) → a < j → j ≤ length s → getD s (j - 1) 0 ≡ 32 → back (slice a j s) ≡ back (slice a (j - 1) s)
-  back-step a zero h l e = absurd (not-suc-le-zero h)
-  back-step a (suc k) h l e = rw (sub-one, slice-snoc a k (omega arith) l) (back-space (slice a k s) (getD s k 0) (eq-eqb _ 32 (rw sub-one at e)))
+  pub trimEnd-step : (a j : ℕ) → a < j → j ≤ length s → getD s (j - 1) 0 ≡ 32 → trimEnd (slice a j s) ≡ trimEnd (slice a (j - 1) s)
+  trimEnd-step a zero h l e = absurd (not-suc-le-zero h)
+  trimEnd-step a (suc k) h l e = rw (sub-one, slice-snoc a k (omega arith) l) (trimEnd-space (slice a k s) (getD s k 0) (eq-eqb _ 32 (rw sub-one at e)))
 
-  pub back-none : (a j : ℕ) → j ≤ a → a ≤ j → back (slice a j s) ≡ slice a j s
-  unfolding back
-  back-none a j h k = let e : j ≡ a = omega arith in rw (e, slice-empty)
+  pub trimEnd-none : (a j : ℕ) → j ≤ a → a ≤ j → trimEnd (slice a j s) ≡ slice a j s
+  unfolding trimEnd
+  trimEnd-none a j h k = let e : j ≡ a = omega arith in rw (e, slice-empty)
 
-  pub lead-stop : (i e : ℕ) → i < e → e ≤ length s → (getD s i 0 ≡ 32 → ⊥) → lead (slice i e s) ≡ slice i e s
-  lead-stop i e h l f = rw (slice-cons i e s 0 h l) (lead-other _ _ (ne-eqb _ 32 f))
+  pub trimFront-stop : (i e : ℕ) → i < e → e ≤ length s → (getD s i 0 ≡ 32 → ⊥) → trimFront (slice i e s) ≡ slice i e s
+  trimFront-stop i e h l f = rw (slice-cons i e s 0 h l) (trimFront-other _ _ (ne-eqb _ 32 f))
 
-  pub lead-step : (i e : ℕ) → i < e → e ≤ length s → getD s i 0 ≡ 32 → lead (slice i e s) ≡ lead (slice (i + 1) e s)
-  lead-step i e h l q = rw (add-one i, slice-cons i e s 0 h l) (lead-space _ _ (eq-eqb _ 32 q))
+  pub trimFront-step : (i e : ℕ) → i < e → e ≤ length s → getD s i 0 ≡ 32 → trimFront (slice i e s) ≡ trimFront (slice (i + 1) e s)
+  trimFront-step i e h l q = rw (add-one i, slice-cons i e s 0 h l) (trimFront-space _ _ (eq-eqb _ 32 q))
 
-  pub lead-none : (i e : ℕ) → e ≤ i → i ≤ e → lead (slice i e s) ≡ slice i e s
-  unfolding lead
-  lead-none i e h k = let q : i ≡ e = omega arith in rw (q, slice-empty)
+  pub trimFront-none : (i e : ℕ) → e ≤ i → i ≤ e → trimFront (slice i e s) ≡ slice i e s
+  unfolding trimFront
+  trimFront-none i e h k = let q : i ≡ e = omega arith in rw (q, slice-empty)
 
 -- ---- the place of a trimmed part
 module _ (s : List ℕ) (a e : ℕ) where
@@ -275,12 +275,12 @@ module _ (s : List ℕ) (a e : ℕ) where
     span-past k = rw (le-leb a e h, lt-leb e (length s) k)
 
     module _ (k : e ≤ length s) where
-      pub span-end : (z : ℕ) → a ≤ z → z ≤ e → back (slice a e s) ≡ slice a z s → (z ≡ a + length (back (slice a e s))) × (a ≤ z) × (z ≤ e) × (back (slice a e s) ≡ slice a z s)
+      pub span-end : (z : ℕ) → a ≤ z → z ≤ e → trimEnd (slice a e s) ≡ slice a z s → (z ≡ a + length (trimEnd (slice a e s))) × (a ≤ z) × (z ≤ e) × (trimEnd (slice a e s) ≡ slice a z s)
       span-end z l m q =
-          let n : length (back (slice a e s)) ≡ z - a = ap length q ∙ length-slice a z s (omega arith) in
+          let n : length (trimEnd (slice a e s)) ≡ z - a = ap length q ∙ length-slice a z s (omega arith) in
           (omega arith, l, m, q)
 
-      pub span-within : (z b : ℕ) → z ≤ e → a ≤ b → b ≤ z → back (slice a e s) ≡ slice a z s → lead (slice a z s) ≡ slice b z s → _≡_ {A = Span} (record { start = b; len = z - b }) (trimSpan s a e)
+      pub span-within : (z b : ℕ) → z ≤ e → a ≤ b → b ≤ z → trimEnd (slice a e s) ≡ slice a z s → trimFront (slice a z s) ≡ slice b z s → _≡_ {A = Span} (record { start = b; len = z - b }) (trimSpan s a e)
       unfolding trimSpan indent trim
       span-within z b l m n p q =
           let i : b ≡ a + (length (slice a z s) - length (slice b z s)) = omega (arith, length-slice a z s (omega arith), length-slice b z s (omega arith)) in

@@ -1,5 +1,5 @@
 -- Bytes and texts. A file, a line, a cell and a name are lists of bytes, each a number below 256.
-use Prim.Native.Nat.{ℕ, suc, _+_, _-_, _*_}
+use Prim.Native.Nat.{ℕ, _+_, _-_, _*_}
 use Prim.Native.Char.{code}
 use Prim.Native.String as Text
 use Prim.Native.String.{String}
@@ -12,9 +12,35 @@ abbrev pub bytes : String → List ℕ
 bytes Text.[] = []
 bytes (Text._∷_ c s) = code c ∷ bytes s
 
-abbrev pub isSpace : ℕ → Bool
-isSpace x = eqb x 32
+-- the bytes that the rules name
+abbrev pub tab : ℕ
+tab = 0x09
 
+abbrev pub lineFeed : ℕ
+lineFeed = 0x0a
+
+abbrev pub space : ℕ
+space = 0x20
+
+abbrev pub plus : ℕ
+plus = 0x2b
+
+abbrev pub comma : ℕ
+comma = 0x2c
+
+abbrev pub hyphen : ℕ
+hyphen = 0x2d
+
+abbrev pub point : ℕ
+point = 0x2e
+
+abbrev pub slash : ℕ
+slash = 0x2f
+
+abbrev pub isSpace : ℕ → Bool
+isSpace x = eqb x space
+
+-- 0 to 9
 abbrev pub isDigit : ℕ → Bool
 isDigit x = leb 48 x && leb x 57
 

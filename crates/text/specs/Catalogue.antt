@@ -2,36 +2,24 @@
 use Prim.Native.Nat.{ℕ, zero, suc, _+_, _-_, _*_, _/_}
 use Prim.Native.String.{String}
 use mathlib.Core.List.{List, [], _∷_, _++_, map}
-use mathlib.Core.Bool.{Bool, cond}
+use mathlib.Core.Bool.{cond}
 use lib.ListN.{length, getD, take, drop, replicate}
-use lib.Dec.{eqb, ltb}
+use lib.Dec.{ltb}
 use Rattle.text.specs.declared.Found.{Found}
 use Rattle.text.specs.declared.Found.the-variants.{At, Nowhere}
 use Rattle.text.specs.Bytes.{bytes, equal}
-use Rattle.text.specs.Judge.{Kind, measured, latitude, longitude, depth, flag, ctdFlag, expocode, stnnbr, castno, date, time, free}
+use Rattle.text.specs.Kinds.{Kind, measured, latitude, longitude, depth, expocode, stnnbr, castno, date, time, free, codeOf}
 
--- the code's number of a kind
-abbrev pub codeOf : Kind → ℕ
-codeOf measured = 0
-codeOf latitude = 1
-codeOf longitude = 2
-codeOf depth = 3
-codeOf flag = 4
-codeOf ctdFlag = 5
-codeOf expocode = 6
-codeOf stnnbr = 7
-codeOf castno = 8
-codeOf date = 9
-codeOf time = 10
-codeOf free = 11
-
+-- a listed name and the number of its kind
 pub record Listed : Type 0 where
   pub name : List ℕ
   pub kind : ℕ
 
+-- the names of a kind
 abbrev pub under : Kind → List String → List Listed
 under k ts = map (λ (t : String). record { name = bytes t; kind = codeOf k }) ts
 
+-- the 48 names
 unfoldable pub listed : List Listed
 listed =
     under free ("BTLNBR" ∷ "SAMPNO" ∷ "SECT" ∷ "SECT_ID" ∷ [])
@@ -67,6 +55,7 @@ unfoldable pub ordered : List Listed → List Listed
 ordered [] = []
 ordered (x ∷ xs) = insert x (ordered xs)
 
+-- the padded names one after the other
 unfoldable pub flat : List Listed → List ℕ
 flat [] = []
 flat (x ∷ xs) = padded (x .name) ++ flat xs
@@ -87,13 +76,15 @@ unfoldable pub searchFrom : List ℕ → List ℕ → ℕ → ℕ → Found
 searchFrom t name zero k = Nowhere
 searchFrom t name (suc n) k = cond (equal (entryAt t k) (padded name)) (At k) (searchFrom t name n (suc k))
 
+-- where a table has the name
 unfoldable pub lookUp : List ℕ → List ℕ → Found
 lookUp t name = searchFrom t name (length t / 16) 0
 
-abbrev pub kindAt : List ℕ → Found → ℕ
-kindAt ks (At k) = getD ks k (codeOf free)
-kindAt ks Nowhere = codeOf free
+-- the kind of the entry that a search found
+abbrev pub entryKind : List ℕ → Found → ℕ
+entryKind ks (At k) = getD ks k (codeOf free)
+entryKind ks Nowhere = codeOf free
 
 -- the kind of a name by a table: free text where it is not listed
 unfoldable pub kindIn : List ℕ → List ℕ → List ℕ → ℕ
-kindIn t ks name = kindAt ks (lookUp t name)
+kindIn t ks name = entryKind ks (lookUp t name)

@@ -5,15 +5,8 @@ use mathlib.Core.List.{List, [], _∷_, _++_}
 use mathlib.Core.Bool.{Bool, true, false, cond, _&&_}
 use lib.ListN.{length}
 use lib.Dec.{leb, eqb}
-use Rattle.text.specs.Bytes.{isDigit, every, numeral}
-
--- A text judged: blank where a kind is asked, not of its kind, of its kind but out of range, or good. What is good writes a number:
--- its sign, its size (a decimal's in millionths), and the decimals as written.
-pub data Verdict : Type 0 where
-  blank : Verdict
-  wrong : Verdict
-  outOfRange : Verdict
-  good : (minus : Bool) (size decimals : ℕ) → Verdict
+use Rattle.text.specs.Bytes.{plus, hyphen, point, isDigit, every, numeral}
+use Rattle.text.specs.Verdicts.{Verdict, wrong, good}
 
 -- the digits at the front; and what stands after them and a point
 unfoldable pub front : List ℕ → List ℕ
@@ -22,20 +15,22 @@ front (x ∷ xs) = cond (isDigit x) (x ∷ front xs) []
 
 unfoldable pub fraction : List ℕ → List ℕ
 fraction [] = []
-fraction (x ∷ xs) = cond (isDigit x) (fraction xs) (cond (eqb x 46) xs (x ∷ xs))
+fraction (x ∷ xs) = cond (isDigit x) (fraction xs) (cond (eqb x point) xs (x ∷ xs))
 
 -- the number v written with b digits before the point and a after it
 unfoldable pub settle : Bool → ℕ → ℕ → ℕ → Verdict
 settle m v b a = cond (leb b 9 && (leb a 6 && leb 1 (b + a))) (good m (v * 10 ^ (6 - a)) a) wrong
 
+-- a text without its sign
 unfoldable pub unsignedOf : Bool → List ℕ → Verdict
 unsignedOf m t =
     cond (every isDigit (fraction t))
     (settle m (numeral 0 (front t ++ fraction t)) (length (front t)) (length (fraction t)))
     wrong
 
+-- a text with its sign
 unfoldable pub decimalOf : List ℕ → Verdict
 decimalOf [] = wrong
 decimalOf (x ∷ xs) =
-    cond (eqb x 45) (unsignedOf true xs)
-    (cond (eqb x 43) (unsignedOf false xs) (unsignedOf false (x ∷ xs)))
+    cond (eqb x hyphen) (unsignedOf true xs)
+    (cond (eqb x plus) (unsignedOf false xs) (unsignedOf false (x ∷ xs)))

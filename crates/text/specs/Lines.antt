@@ -19,9 +19,11 @@ to a b = record { low = a; high = b }
 abbrev pub within : Range → ℕ → Bool
 within r x = leb (r .low) x && leb x (r .high)
 
+-- UTF8-tail
 abbrev pub tail : Range
 tail = to 0x80 0xbf
 
+-- UTF8-1, UTF8-2, the four of UTF8-3, the three of UTF8-4
 abbrev pub alternatives : List (List Range)
 alternatives =
     (to 0x00 0x7f ∷ [])

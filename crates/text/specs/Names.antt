@@ -1,19 +1,20 @@
 -- Document 01, "Lines" and "The catalogue": the bytes of a name, and what makes a column a flag column.
 use Prim.Native.Nat.{ℕ, _-_}
-use mathlib.Core.List.{List, [], _∷_}
-use mathlib.Core.Bool.{Bool, true, false, cond, not, _&&_}
+use mathlib.Core.List.{List}
+use mathlib.Core.Bool.{Bool, cond, not, _&&_}
 use lib.ListN.{length, take, drop}
 use lib.Dec.{eqb, leb}
-use Rattle.text.specs.Bytes.{bytes, every, equal}
+use Rattle.text.specs.Bytes.{comma, bytes, every, equal}
 
 -- bytes 21 to 7E, with no comma and no lower-case letter
 abbrev pub nameByte : ℕ → Bool
-nameByte x = leb 0x21 x && leb x 0x7e && not (eqb x 44) && not (leb 97 x && leb x 122)
+nameByte x = leb 0x21 x && leb x 0x7e && not (eqb x comma) && not (leb 97 x && leb x 122)
 
 -- a name is not empty
 unfoldable pub isName : List ℕ → Bool
 isName t = leb 1 (length t) && every nameByte t
 
+-- as many bytes as _FLAG_W has
 abbrev pub lastSeven : List ℕ → List ℕ
 lastSeven t = drop (length t - 7) t
 

@@ -1,28 +1,33 @@
 -- Document 01, "Decimals": a decimal column's reading. A present reading carries its millionths and its double; a missing one carries no number.
-use Prim.Native.Nat.{ℕ, _^_}
+use Prim.Native.Nat.{ℕ}
 use mathlib.Core.List.{List}
 use mathlib.Core.Bool.{Bool, true, false, cond}
-use lib.Dec.{eqb, ltb}
+use lib.Dec.{eqb}
 use lib.IntN.{ℤ, pos, negsuc, negℤ}
 use lib.Ieee.{Float, binary64, ofInt, div}
 use Rattle.text.specs.declared.Judged.{Judged}
 use Rattle.text.specs.declared.Reading.{Reading}
 use Rattle.text.specs.declared.Reading.the-variants.{Present, Missing, Refused}
-use Rattle.text.specs.Judge.{Kind, measured, latitude, longitude, depth, flag, ctdFlag, expocode, stnnbr, castno, date, time, free, kindOf, judgedAt}
-
--- the number of that sign and size, below 10^15; minus zero is 0
-unfoldable pub signed : Bool → ℕ → ℤ
-signed minus size = cond (ltb size (10 ^ 15)) (cond minus (negℤ (pos size)) (pos size)) (pos 0)
+use Rattle.text.specs.Kinds.{Kind, measured, latitude, longitude, depth, flag, ctdFlag, expocode, stnnbr, castno, date, time, free, kindOf}
+use Rattle.text.specs.Verdicts.{signed}
+use Rattle.text.specs.Judge.{judgedAt}
 
 -- the double: the millionths, held exactly, divided once by one million
 unfoldable pub doubleOf : ℤ → Float
 doubleOf m = div binary64 (ofInt binary64 m) (ofInt binary64 (pos 1000000))
 
+-- two numbers are the same
+abbrev pub sameNumber : ℤ → ℤ → Bool
+sameNumber (pos a) (pos b) = eqb a b
+sameNumber (pos a) (negsuc b) = false
+sameNumber (negsuc a) (pos b) = false
+sameNumber (negsuc a) (negsuc b) = eqb a b
+
 -- missing: -999 in millionths
 abbrev pub isMissing : ℤ → Bool
-isMissing (pos n) = false
-isMissing (negsuc n) = eqb n 998999999
+isMissing m = sameNumber m (negℤ (pos 999000000))
 
+-- the reading of a number of millionths
 abbrev pub readNumber : ℤ → Reading
 readNumber m = cond (isMissing m) Missing (Present m (doubleOf m))
 
@@ -48,5 +53,6 @@ readingOf k j =
     (cond (eqb (j .number) 0) (readNumber (signed (j .minus) (j .size))) (Refused (j .number) 0 0))
     (Refused 22 0 0)
 
+-- what reading the cell at i gives
 unfoldable pub readingAt : ℕ → ℕ → List ℕ → ℕ → ℕ → Reading
 readingAt k c s i e = readingOf k (judgedAt k c s i e)

@@ -1,29 +1,17 @@
 -- Document 01, "Lines" and "Profiles": the cells of a line, judged from the left by their columns' kinds; what counts as a missing reading,
 -- and where the cells stand that make a bottle file's profiles.
-use Prim.Native.Nat.{ℕ, suc, _+_, _-_}
+use Prim.Native.Nat.{ℕ, _+_, _-_}
 use mathlib.Core.List.{List, [], _∷_}
-use mathlib.Core.Bool.{Bool, true, false, cond, _&&_, _||_}
-use lib.ListN.{length, getD}
-use lib.Dec.{eqb, ltb}
-use Rattle.text.specs.declared.Span.{Span}
+use mathlib.Core.Bool.{Bool, true, false, cond, _&&_}
+use lib.ListN.{length}
+use lib.Dec.{eqb}
 use Rattle.text.specs.declared.Judged.{Judged}
 use Rattle.text.specs.declared.Keys.{Keys}
 use Rattle.text.specs.declared.CellsRead.{CellsRead}
 use Rattle.text.specs.Cells.{pieces, lineAt}
-use Rattle.text.specs.Decimals.{Verdict, blank, wrong, outOfRange, good}
-use Rattle.text.specs.Judge.{kindOf, judge, judgedOf, stopsAt}
-
-abbrev pub isGood : Verdict → Bool
-isGood blank = false
-isGood wrong = false
-isGood outOfRange = false
-isGood (good m v d) = true
-
-abbrev pub sizeOf : Verdict → ℕ
-sizeOf blank = 0
-sizeOf wrong = 0
-sizeOf outOfRange = 0
-sizeOf (good m v d) = v
+use Rattle.text.specs.Kinds.{measured, expocode, stnnbr, castno, codeOf, kindOf}
+use Rattle.text.specs.Verdicts.{Verdict, blank, wrong, outOfRange, good, isGood, sizeOf}
+use Rattle.text.specs.Judge.{judge, judgedOf, stopsAt}
 
 -- -999 in millionths
 abbrev pub isMissingNumber : Verdict → Bool
@@ -34,17 +22,18 @@ isMissingNumber (good m v d) = m && eqb v 999000000
 
 -- a missing reading: a measured cell that reads -999
 unfoldable pub missingIn : ℕ → Verdict → ℕ
-missingIn k v = cond (eqb k 0 && isMissingNumber v) 1 0
+missingIn k v = cond (eqb k (codeOf measured) && isMissingNumber v) 1 0
 
+-- no key noted yet
 abbrev pub noKeys : Keys
 noKeys = record { expocode = record { start = 0; len = 0 }; stnnbr = record { start = 0; len = 0 }; castno = 0 }
 
 -- the keys with a good cell of kind k noted, which stands from a to q and writes v
 unfoldable pub noted : ℕ → ℕ → ℕ → ℕ → Keys → Keys
 noted k a q v w =
-    cond (eqb k 6) (record { expocode = record { start = a; len = q - a }; stnnbr = w .stnnbr; castno = w .castno })
-    (cond (eqb k 7) (record { expocode = w .expocode; stnnbr = record { start = a; len = q - a }; castno = w .castno })
-    (cond (eqb k 8) (record { expocode = w .expocode; stnnbr = w .stnnbr; castno = v }) w))
+    cond (eqb k (codeOf expocode)) (record { expocode = record { start = a; len = q - a }; stnnbr = w .stnnbr; castno = w .castno })
+    (cond (eqb k (codeOf stnnbr)) (record { expocode = w .expocode; stnnbr = record { start = a; len = q - a }; castno = w .castno })
+    (cond (eqb k (codeOf castno)) (record { expocode = w .expocode; stnnbr = w .stnnbr; castno = v }) w))
 
 -- the code's record: g cells are good and m of them read as missing; the last one judged starts at `at`
 abbrev pub endedAt : ℕ → ℕ → ℕ → Keys → Judged → CellsRead
@@ -60,9 +49,11 @@ endedAt at g m w j = record {
   keys = w;
 }
 
+-- where no cell can be judged
 abbrev pub noCells : ℕ → CellsRead
 noCells i = endedAt i 0 0 noKeys (judgedOf i wrong)
 
+-- no kind or no cell is left
 abbrev pub isLast : List ℕ → List (List ℕ) → Bool
 isLast [] ts = true
 isLast (k ∷ ks) [] = true
@@ -83,14 +74,3 @@ cellsFrom i at g m w (k ∷ ks) (t ∷ ts) =
 -- what judging the cells from i on gives, one for each kind; a line feed stands at e
 unfoldable pub cellsAt : List ℕ → ℕ → List ℕ → ℕ → ℕ → CellsRead
 cellsAt ks c s i e = cond (stopsAt c s i e) (cellsFrom i i 0 0 noKeys ks (pieces c (lineAt s i))) (noCells i)
-
--- for the code's inner functions: what a good cell adds to the missing readings, and the keys as five numbers
-abbrev pub share : ℕ → Judged → ℕ
-share k j = cond (eqb k 0 && (j .minus && eqb (j .size) 999000000)) 1 0
-
-abbrev pub keysIn : List ℕ → Keys
-keysIn l = record {
-  expocode = record { start = getD l 0 0; len = getD l 1 0 };
-  stnnbr = record { start = getD l 2 0; len = getD l 3 0 };
-  castno = getD l 4 0;
-}

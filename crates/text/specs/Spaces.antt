@@ -3,7 +3,7 @@
 use Prim.Native.Nat.{ℕ, _+_, _-_}
 use mathlib.Core.Path.{_≡_}
 use mathlib.Core.List.{List, [], _∷_}
-use mathlib.Core.Bool.{Bool, cond, _&&_}
+use mathlib.Core.Bool.{cond, _&&_}
 use lib.ListN.{length, take, drop}
 use lib.Seq.{slice}
 use lib.Dec.{leb}
@@ -12,25 +12,26 @@ use Rattle.text.specs.declared.Span.{Span}
 use Rattle.text.specs.Bytes.{isSpace}
 
 -- without the spaces at the front
-unfoldable pub lead : List ℕ → List ℕ
-lead [] = []
-lead (x ∷ xs) = cond (isSpace x) (lead xs) (x ∷ xs)
+unfoldable pub trimFront : List ℕ → List ℕ
+trimFront [] = []
+trimFront (x ∷ xs) = cond (isSpace x) (trimFront xs) (x ∷ xs)
 
 -- without the spaces at the end
 unfoldable pub keep : ℕ → List ℕ → List ℕ
 keep x [] = cond (isSpace x) [] (x ∷ [])
 keep x (y ∷ ys) = x ∷ (y ∷ ys)
 
-unfoldable pub back : List ℕ → List ℕ
-back [] = []
-back (x ∷ xs) = keep x (back xs)
+unfoldable pub trimEnd : List ℕ → List ℕ
+trimEnd [] = []
+trimEnd (x ∷ xs) = keep x (trimEnd xs)
 
+-- without the spaces at both ends
 unfoldable pub trim : List ℕ → List ℕ
-trim t = lead (back t)
+trim t = trimFront (trimEnd t)
 
 -- how many spaces stand before the trimmed text; none where all are spaces
 unfoldable pub indent : List ℕ → ℕ
-indent t = length (back t) - length (trim t)
+indent t = length (trimEnd t) - length (trim t)
 
 -- the place of the bytes of s from a to e, trimmed; the empty part at the start of s where s has no such bytes
 unfoldable pub trimSpan : List ℕ → ℕ → ℕ → Span

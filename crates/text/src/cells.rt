@@ -3,21 +3,33 @@ ghost use mathlib.Core.Path.{_≡_};
 ghost use mathlib.Core.Bool.{false};
 ghost use mathlib.Core.List.{_∷_};
 ghost use Prim.Native.Nat.{_≤_};
-ghost use Rattle.text.specs.Cells.{next, cellAt};
+ghost use Rattle.text.specs.Cells.{cellEnd, cellAt};
 ghost use Rattle.text.specs.Spaces.{trim};
-ghost use Rattle.text.specs.Decimals.{wrong, outOfRange, good};
-ghost use Rattle.text.specs.Judge.{unlessBlank, judgedOf, atMost, inFlags, wholeOf, keyOf, dateOf, clockOf, timeOf, judge as judgeKind, kindOf, topOf, rangedOf};
-ghost use Rattle.text.specs.Scans.{Stop, body, closing};
+ghost use Rattle.text.specs.Verdicts.{wrong, outOfRange, good};
+ghost use Rattle.text.specs.Kinds.{kindOf};
+ghost use Rattle.text.specs.Judge.{unlessBlank, judgedOf, inFlags, wholeOf, keyTextOf, dateOf, clockOf, timeOf, judge as judgeKind};
+ghost use Rattle.text.specs.Inner.Cells.{topOf, rangedOf};
+ghost use Rattle.text.specs.Inner.Scans.{Stop, body};
 use crate::Judged;
 use crate::dates::is_date;
+use crate::decimals::TOO_LARGE;
 use crate::decimals::blank_cell;
 use crate::decimals::close;
 use crate::decimals::decimal;
 use crate::decimals::wrong_cell;
-use crate::runs::digits;
-use crate::runs::spaces;
-use crate::runs::text_end;
-use crate::runs::word_end;
+use crate::kinds;
+use crate::refusals;
+use crate::scans::digits;
+use crate::scans::spaces;
+use crate::scans::text_end;
+use crate::scans::word_end;
+
+// The largest sizes that are in range: 90 and 180 degrees in millionths, and cast 999.
+const MOST_LATITUDE: u64 = 90000000;
+
+const MOST_LONGITUDE: u64 = 180000000;
+
+const MOST_CASTNO: u64 = 999;
 
 // What stands at i where no cell goes on.
 pub fn no_cell(i: usize) -> Judged
@@ -25,7 +37,7 @@ pub fn no_cell(i: usize) -> Judged
 {
     Judged {
         at: i,
-        number: 16,
+        number: refusals::NOT_OF_ITS_KIND,
         minus: false,
         size: 0,
         decimals: 0,
@@ -37,7 +49,7 @@ fn out_of_range(at: usize) -> Judged
 {
     Judged {
         at,
-        number: 18,
+        number: refusals::OUT_OF_RANGE,
         minus: false,
         size: 0,
         decimals: 0,
@@ -58,30 +70,30 @@ fn ranged(c: Judged, top: u64) -> Judged
 fn top(kind: u8) -> u64
     ensures { λ r. ⌜ r ≡ topOf kind ⌝ }
 {
-    if kind == 1 {
-        90000000
-    } else if kind == 2 {
-        180000000
+    if kind == kinds::LATITUDE {
+        MOST_LATITUDE
+    } else if kind == kinds::LONGITUDE {
+        MOST_LONGITUDE
     } else {
-        1000000000000000
+        TOO_LARGE
     }
 }
 
 fn flag(s: &[u8], i: usize, e: usize, separator: u8, ctd: bool) -> Judged
     requires { ⌜ Stop separator (now s) i e ⌝ }
-    ensures { λ r. ⌜ r ≡ judgedOf (next separator (now (s .entry)) i) (unlessBlank (λ t. inFlags ctd (wholeOf 1 t)) (trim (cellAt separator (now (s .entry)) i))) ⌝ }
+    ensures { λ r. ⌜ r ≡ judgedOf (cellEnd separator (now (s .entry)) i) (unlessBlank (λ t. inFlags ctd (wholeOf 1 t)) (trim (cellAt separator (now (s .entry)) i))) ⌝ }
 {
     let a = spaces(s, i, e, separator);
     let b = s[a];
-    if (b == separator) | (b == 10) {
+    if (b == separator) | (b == b'\n') {
         blank_cell(s, a, e, separator)
-    } else if (b < 48) | (57 < b) {
+    } else if (b < b'0') | (b'9' < b) {
         wrong_cell(s, a, e, separator)
     } else {
-        let c = close(s, a + 1, e, separator, false, (b - 48) as u64, 0);
+        let c = close(s, a + 1, e, separator, false, (b - b'0') as u64, 0);
         if c.number != 0 {
             c
-        } else if (b == 48) | (ctd & (b == 56)) {
+        } else if (b == b'0') | (ctd & (b == b'8')) {
             out_of_range(c.at)
         } else {
             c
@@ -91,11 +103,11 @@ fn flag(s: &[u8], i: usize, e: usize, separator: u8, ctd: bool) -> Judged
 
 fn key(s: &[u8], i: usize, e: usize, separator: u8) -> Judged
     requires { ⌜ Stop separator (now s) i e ⌝ }
-    ensures { λ r. ⌜ r ≡ judgedOf (next separator (now (s .entry)) i) (unlessBlank keyOf (trim (cellAt separator (now (s .entry)) i))) ⌝ }
+    ensures { λ r. ⌜ r ≡ judgedOf (cellEnd separator (now (s .entry)) i) (unlessBlank keyTextOf (trim (cellAt separator (now (s .entry)) i))) ⌝ }
 {
     let a = spaces(s, i, e, separator);
     let b = s[a];
-    if (b == separator) | (b == 10) {
+    if (b == separator) | (b == b'\n') {
         blank_cell(s, a, e, separator)
     } else {
         close(s, word_end(s, a, e, separator), e, separator, false, 0, 0)
@@ -104,11 +116,11 @@ fn key(s: &[u8], i: usize, e: usize, separator: u8) -> Judged
 
 pub fn whole_number(s: &[u8], i: usize, e: usize, separator: u8, most: usize) -> Judged
     requires { ⌜ Stop separator (now s) i e × (most ≤ 9) ⌝ }
-    ensures { λ r. ⌜ r ≡ judgedOf (next separator (now (s .entry)) i) (unlessBlank (wholeOf most) (trim (cellAt separator (now (s .entry)) i))) ⌝ }
+    ensures { λ r. ⌜ r ≡ judgedOf (cellEnd separator (now (s .entry)) i) (unlessBlank (wholeOf most) (trim (cellAt separator (now (s .entry)) i))) ⌝ }
 {
     let a = spaces(s, i, e, separator);
     let b = s[a];
-    if (b == separator) | (b == 10) {
+    if (b == separator) | (b == b'\n') {
         blank_cell(s, a, e, separator)
     } else {
         let w = digits(s, a, e, separator, a + 10, 0);
@@ -125,11 +137,11 @@ pub fn whole_number(s: &[u8], i: usize, e: usize, separator: u8, most: usize) ->
 
 fn date(s: &[u8], i: usize, e: usize, separator: u8) -> Judged
     requires { ⌜ Stop separator (now s) i e ⌝ }
-    ensures { λ r. ⌜ r ≡ judgedOf (next separator (now (s .entry)) i) (unlessBlank dateOf (trim (cellAt separator (now (s .entry)) i))) ⌝ }
+    ensures { λ r. ⌜ r ≡ judgedOf (cellEnd separator (now (s .entry)) i) (unlessBlank dateOf (trim (cellAt separator (now (s .entry)) i))) ⌝ }
 {
     let a = spaces(s, i, e, separator);
     let b = s[a];
-    if (b == separator) | (b == 10) {
+    if (b == separator) | (b == b'\n') {
         blank_cell(s, a, e, separator)
     } else {
         let w = digits(s, a, e, separator, a + 9, 0);
@@ -153,13 +165,13 @@ fn date(s: &[u8], i: usize, e: usize, separator: u8) -> Judged
 // The rest of -999 after its sign.
 fn nines(s: &[u8], p: usize, e: usize, separator: u8) -> Judged
     requires { ⌜ Stop separator (now s) p e ⌝ }
-    ensures { λ r. ⌜ r ≡ judgedOf (next separator (now (s .entry)) p) (timeOf (45 ∷ body separator (now (s .entry)) p)) ⌝ }
+    ensures { λ r. ⌜ r ≡ judgedOf (cellEnd separator (now (s .entry)) p) (timeOf (45 ∷ body separator (now (s .entry)) p)) ⌝ }
 {
-    if s[p] != 57 {
+    if s[p] != b'9' {
         wrong_cell(s, p, e, separator)
-    } else if s[p + 1] != 57 {
+    } else if s[p + 1] != b'9' {
         wrong_cell(s, p, e, separator)
-    } else if s[p + 2] != 57 {
+    } else if s[p + 2] != b'9' {
         wrong_cell(s, p, e, separator)
     } else {
         close(s, p + 3, e, separator, true, 999, 0)
@@ -169,7 +181,7 @@ fn nines(s: &[u8], p: usize, e: usize, separator: u8) -> Judged
 // A time of day, after its spaces.
 fn clock(s: &[u8], a: usize, e: usize, separator: u8) -> Judged
     requires { ⌜ Stop separator (now s) a e ⌝ }
-    ensures { λ r. ⌜ r ≡ judgedOf (next separator (now (s .entry)) a) (clockOf (body separator (now (s .entry)) a)) ⌝ }
+    ensures { λ r. ⌜ r ≡ judgedOf (cellEnd separator (now (s .entry)) a) (clockOf (body separator (now (s .entry)) a)) ⌝ }
 {
     let w = digits(s, a, e, separator, a + 5, 0);
     let q = w.at;
@@ -190,13 +202,13 @@ fn clock(s: &[u8], a: usize, e: usize, separator: u8) -> Judged
 
 fn time(s: &[u8], i: usize, e: usize, separator: u8) -> Judged
     requires { ⌜ Stop separator (now s) i e ⌝ }
-    ensures { λ r. ⌜ r ≡ judgedOf (next separator (now (s .entry)) i) (unlessBlank timeOf (trim (cellAt separator (now (s .entry)) i))) ⌝ }
+    ensures { λ r. ⌜ r ≡ judgedOf (cellEnd separator (now (s .entry)) i) (unlessBlank timeOf (trim (cellAt separator (now (s .entry)) i))) ⌝ }
 {
     let a = spaces(s, i, e, separator);
     let b = s[a];
-    if (b == separator) | (b == 10) {
+    if (b == separator) | (b == b'\n') {
         blank_cell(s, a, e, separator)
-    } else if b == 45 {
+    } else if b == b'-' {
         nines(s, a + 1, e, separator)
     } else {
         clock(s, a, e, separator)
@@ -205,7 +217,7 @@ fn time(s: &[u8], i: usize, e: usize, separator: u8) -> Judged
 
 fn free(s: &[u8], i: usize, e: usize, separator: u8) -> Judged
     requires { ⌜ Stop separator (now s) i e ⌝ }
-    ensures { λ r. ⌜ r ≡ judgedOf (next separator (now (s .entry)) i) (good false 0 0) ⌝ }
+    ensures { λ r. ⌜ r ≡ judgedOf (cellEnd separator (now (s .entry)) i) (good false 0 0) ⌝ }
 {
     Judged {
         at: text_end(s, i, e, separator),
@@ -216,21 +228,22 @@ fn free(s: &[u8], i: usize, e: usize, separator: u8) -> Judged
     }
 }
 
+// The kinds by their numbers: before FLAG the decimals, before EXPOCODE the flags, before CASTNO the key texts.
 pub fn by_kind(s: &[u8], i: usize, e: usize, separator: u8, kind: u8) -> Judged
     requires { ⌜ Stop separator (now s) i e ⌝ }
-    ensures { λ r. ⌜ r ≡ judgedOf (next separator (now (s .entry)) i) (judgeKind (kindOf kind) (cellAt separator (now (s .entry)) i)) ⌝ }
+    ensures { λ r. ⌜ r ≡ judgedOf (cellEnd separator (now (s .entry)) i) (judgeKind (kindOf kind) (cellAt separator (now (s .entry)) i)) ⌝ }
 {
-    if kind < 4 {
+    if kind < kinds::FLAG {
         ranged(decimal(s, i, e, separator), top(kind))
-    } else if kind < 6 {
-        flag(s, i, e, separator, kind == 5)
-    } else if kind < 8 {
+    } else if kind < kinds::EXPOCODE {
+        flag(s, i, e, separator, kind == kinds::CTD_FLAG)
+    } else if kind < kinds::CASTNO {
         key(s, i, e, separator)
-    } else if kind == 8 {
-        ranged(whole_number(s, i, e, separator, 9), 999)
-    } else if kind == 9 {
+    } else if kind == kinds::CASTNO {
+        ranged(whole_number(s, i, e, separator, 9), MOST_CASTNO)
+    } else if kind == kinds::DATE {
         date(s, i, e, separator)
-    } else if kind == 10 {
+    } else if kind == kinds::TIME {
         time(s, i, e, separator)
     } else {
         free(s, i, e, separator)

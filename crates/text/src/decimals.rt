@@ -1,26 +1,32 @@
-// A decimal in one pass: spaces, sign, digits, point, digits, spaces.
+// A decimal in one pass: spaces, sign, digits, point, digits, spaces; and the ends that every kind of cell has: blank, not of its kind, closed.
 ghost use mathlib.Core.Path.{_≡_};
 ghost use mathlib.Core.Bool.{cond, _||_};
-ghost use Prim.Native.Nat.{_+_, _-_, _^_, _≤_, _<_};
+ghost use Prim.Native.Nat.{_+_, _-_, _≤_, _<_};
 ghost use lib.Dec.{eqb};
-ghost use Rattle.text.specs.Cells.{next, cellAt};
+ghost use Rattle.text.specs.Cells.{cellEnd, cellAt};
 ghost use Rattle.text.specs.Spaces.{trim};
-ghost use Rattle.text.specs.Decimals.{blank, wrong, good, unsignedOf, decimalOf};
+ghost use Rattle.text.specs.Verdicts.{blank, wrong, good};
+ghost use Rattle.text.specs.Decimals.{unsignedOf, decimalOf};
 ghost use Rattle.text.specs.Judge.{unlessBlank, judgedOf};
-ghost use Rattle.text.specs.Scans.{Stop, body, closing};
+ghost use Rattle.text.specs.Inner.Scans.{Stop, body, closing};
 use crate::Judged;
-use crate::runs::digits;
-use crate::runs::spaces;
-use crate::runs::text_end;
+use crate::last_place;
+use crate::refusals;
+use crate::scans::digits;
+use crate::scans::spaces;
+use crate::scans::text_end;
+
+// Every size of a decimal is below it: 10^15 millionths.
+pub const TOO_LARGE: u64 = 1000000000000000;
 
 // A cell that is blank, and one that is not of its kind; what is left of it goes on at q.
 pub fn blank_cell(s: &[u8], q: usize, e: usize, separator: u8) -> Judged
     requires { ⌜ Stop separator (now s) q e ⌝ }
-    ensures { λ r. ⌜ r ≡ judgedOf (next separator (now (s .entry)) q) blank ⌝ }
+    ensures { λ r. ⌜ r ≡ judgedOf (cellEnd separator (now (s .entry)) q) blank ⌝ }
 {
     Judged {
         at: text_end(s, q, e, separator),
-        number: 17,
+        number: refusals::BLANK,
         minus: false,
         size: 0,
         decimals: 0,
@@ -29,11 +35,11 @@ pub fn blank_cell(s: &[u8], q: usize, e: usize, separator: u8) -> Judged
 
 pub fn wrong_cell(s: &[u8], q: usize, e: usize, separator: u8) -> Judged
     requires { ⌜ Stop separator (now s) q e ⌝ }
-    ensures { λ r. ⌜ r ≡ judgedOf (next separator (now (s .entry)) q) wrong ⌝ }
+    ensures { λ r. ⌜ r ≡ judgedOf (cellEnd separator (now (s .entry)) q) wrong ⌝ }
 {
     Judged {
         at: text_end(s, q, e, separator),
-        number: 16,
+        number: refusals::NOT_OF_ITS_KIND,
         minus: false,
         size: 0,
         decimals: 0,
@@ -51,11 +57,11 @@ pub fn close(
     decimals: u64,
 ) -> Judged
     requires { ⌜ Stop separator (now s) q e ⌝ }
-    ensures { λ r. ⌜ r ≡ judgedOf (next separator (now (s .entry)) q) (closing (good minus size decimals) (body separator (now (s .entry)) q)) ⌝ }
+    ensures { λ r. ⌜ r ≡ judgedOf (cellEnd separator (now (s .entry)) q) (closing (good minus size decimals) (body separator (now (s .entry)) q)) ⌝ }
 {
     let r = spaces(s, q, e, separator);
     let b = s[r];
-    if (b == separator) | (b == 10) {
+    if (b == separator) | (b == b'\n') {
         Judged {
             at: r,
             number: 0,
@@ -68,32 +74,17 @@ pub fn close(
     }
 }
 
-fn power(n: usize) -> u64
-    requires { ⌜ n ≤ 6 ⌝ }
-    ensures { λ r. ⌜ r ≡ 10 ^ (6 - n) ⌝ }
-{
-    match n {
-        0 => 1000000,
-        1 => 100000,
-        2 => 10000,
-        3 => 1000,
-        4 => 100,
-        5 => 10,
-        _ => 1,
-    }
-}
-
 // The digits and the point, after the sign.
 fn unsigned(s: &[u8], p: usize, e: usize, separator: u8, minus: bool) -> Judged
     requires { ⌜ Stop separator (now s) p e ⌝ }
-    ensures { λ r. ⌜ r ≡ judgedOf (next separator (now (s .entry)) p) (unsignedOf minus (body separator (now (s .entry)) p)) ⌝ }
+    ensures { λ r. ⌜ r ≡ judgedOf (cellEnd separator (now (s .entry)) p) (unsignedOf minus (body separator (now (s .entry)) p)) ⌝ }
 {
     let w = digits(s, p, e, separator, p + 10, 0);
     let q = w.at;
     let v = w.v;
     if 9 < q - p {
         wrong_cell(s, q, e, separator)
-    } else if s[q] != 46 {
+    } else if s[q] != b'.' {
         if q == p {
             wrong_cell(s, q, e, separator)
         } else {
@@ -108,7 +99,15 @@ fn unsigned(s: &[u8], p: usize, e: usize, separator: u8, minus: bool) -> Judged
         } else if r - p == 1 {
             wrong_cell(s, r, e, separator)
         } else {
-            close(s, r, e, separator, minus, f.v * power(after), after as u64)
+            close(
+                s,
+                r,
+                e,
+                separator,
+                minus,
+                f.v * last_place(after as u64),
+                after as u64,
+            )
         }
     }
 }
@@ -117,18 +116,18 @@ fn after_sign(a: usize, e: usize, b: u8) -> usize
     requires { ⌜ a < e ⌝ }
     ensures { λ r. ⌜ (r ≡ cond (eqb b 45 || eqb b 43) (a + 1) a) × (r ≤ a + 1) ⌝ }
 {
-    if (b == 45) | (b == 43) { a + 1 } else { a }
+    if (b == b'-') | (b == b'+') { a + 1 } else { a }
 }
 
 pub fn decimal(s: &[u8], i: usize, e: usize, separator: u8) -> Judged
     requires { ⌜ Stop separator (now s) i e ⌝ }
-    ensures { λ r. ⌜ r ≡ judgedOf (next separator (now (s .entry)) i) (unlessBlank decimalOf (trim (cellAt separator (now (s .entry)) i))) ⌝ }
+    ensures { λ r. ⌜ r ≡ judgedOf (cellEnd separator (now (s .entry)) i) (unlessBlank decimalOf (trim (cellAt separator (now (s .entry)) i))) ⌝ }
 {
     let a = spaces(s, i, e, separator);
     let b = s[a];
-    if (b == separator) | (b == 10) {
+    if (b == separator) | (b == b'\n') {
         blank_cell(s, a, e, separator)
     } else {
-        unsigned(s, after_sign(a, e, b), e, separator, b == 45)
+        unsigned(s, after_sign(a, e, b), e, separator, b == b'-')
     }
 }

@@ -1,4 +1,4 @@
-// The kinds of columns and headers, as the numbers that the code keeps for them (specs/Judge.antt: codeOf).
+// The kinds of columns and headers, as the numbers that the code keeps for them (codeOf in specs/Kinds.antt).
 pub const MEASURED: u8 = 0;
 
 pub const LATITUDE: u8 = 1;

@@ -1,13 +1,15 @@
 // The texts of an exchange file: spaces, UTF-8, whole numbers, decimals, dates, times, names, and the catalogue.
 // A cell goes on from a place of the lent bytes to a separator or a line feed; the caller says where a line feed stands, and every call sees to that itself.
 ghost use mathlib.Core.Path.{_≡_};
+ghost use Prim.Native.Nat.{_-_, _^_};
 ghost use Rattle.text.specs.Spaces.{trimSpan, IsPart};
 ghost use Rattle.text.specs.Lines.{illFormed, returnAt, controlAt};
 ghost use Rattle.text.specs.Bytes.{equal};
 ghost use Rattle.text.specs.Names.{isName, parameterLength, beginsCtd};
 ghost use Rattle.text.specs.Catalogue.{names, kinds, kindIn};
 ghost use Rattle.text.specs.Judge.{judgedAt, wholeAt};
-ghost use Rattle.text.specs.Reading.{signed, readingAt};
+ghost use Rattle.text.specs.Verdicts.{signed};
+ghost use Rattle.text.specs.Reading.{readingAt};
 ghost use Rattle.text.specs.Rows.{cellsAt};
 
 mod catalogue;
@@ -20,7 +22,7 @@ mod names;
 mod readings;
 pub mod refusals;
 mod rows;
-mod runs;
+mod scans;
 mod spaces;
 
 // Where a search of a line ends.
@@ -220,25 +222,25 @@ pub fn catalogue_kinds() -> [u8; 48]
 pub fn kind_of<'a>(listed: &'a [u8], of: &'a [u8], name: &'a [u8]) -> u8
     ensures { λ r. ⌜ r ≡ kindIn (now (listed .entry)) (now (of .entry)) (now (name .entry)) ⌝ }
 {
-    let n = listed.len() / 16;
+    let n = listed.len() / catalogue::ENTRY;
     let mut k = 0;
     while k < n {
         if catalogue::is_entry(listed, k, name) {
             if k < of.len() {
                 return of[k];
             }
-            return catalogue::FREE;
+            return kinds::FREE;
         }
         k += 1;
     }
-    catalogue::FREE
+    kinds::FREE
 }
 
 // The cells from i on, one for each kind, up to the first refused one or the line feed, which stands at e.
 pub fn judge_cells<'a>(s: &'a [u8], i: usize, e: usize, separator: u8, kinds: &'a [u8]) -> CellsRead
     ensures { λ r. ⌜ r ≡ cellsAt (now (kinds .entry)) separator (now (s .entry)) i e ⌝ }
 {
-    if runs::stops(s, i, e, separator) {
+    if scans::stops(s, i, e, separator) {
         rows::from_left(s, i, e, separator, kinds)
     } else {
         rows::no_cells(i)
@@ -265,7 +267,7 @@ pub fn whole(s: &[u8], i: usize, e: usize, separator: u8, most: usize) -> Judged
     ensures { λ r. ⌜ r ≡ wholeAt most separator (now (s .entry)) i e ⌝ }
 {
     if most <= 9 {
-        if runs::stops(s, i, e, separator) {
+        if scans::stops(s, i, e, separator) {
             return cells::whole_number(s, i, e, separator, most);
         }
     }
@@ -276,11 +278,26 @@ pub fn whole(s: &[u8], i: usize, e: usize, separator: u8, most: usize) -> Judged
 pub fn signed_size(minus: bool, size: u64) -> i64
     ensures { λ r. ⌜ r ≡ signed minus size ⌝ }
 {
-    if 1000000000000000 <= size {
+    if decimals::TOO_LARGE <= size {
         return 0;
     }
     let m = size as i64;
     if minus { 0 - m } else { m }
+}
+
+// How many millionths one in the last of so many decimals is.
+pub fn last_place(decimals: u64) -> u64
+    ensures { λ r. ⌜ r ≡ 10 ^ (6 - decimals) ⌝ }
+{
+    match decimals {
+        0 => 1000000,
+        1 => 100000,
+        2 => 10000,
+        3 => 1000,
+        4 => 100,
+        5 => 10,
+        _ => 1,
+    }
 }
 
 // The reading of the decimal cell that starts at i; a line feed stands at e.

@@ -1,4 +1,4 @@
-// Rules 3, 4 and 5 of a line.
+// The characters of UTF-8, each by its bytes (rule 3 of a line), and the byte at a place.
 ghost use mathlib.Core.Path.{_≡_};
 ghost use mathlib.Core.Bool.{_||_, _&&_};
 ghost use mathlib.Core.List.{[], _∷_};

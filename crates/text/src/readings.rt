@@ -5,14 +5,19 @@ ghost use lib.IntN.{natAbs};
 ghost use Rattle.text.specs.Reading.{readNumber, readingOf};
 use crate::Judged;
 use crate::Reading;
+use crate::kinds;
+use crate::refusals;
 use crate::signed_size;
+
+// -999 in millionths.
+const MISSING: i64 = -999000000;
 
 // Missing at -999; else the number itself with its double.
 fn read_number(m: i64) -> Reading
     requires { ⌜ natAbs m < 10 ^ 15 ⌝ }
     ensures { λ r. ⌜ r ≡ readNumber m ⌝ }
 {
-    if m == -999000000 {
+    if m == MISSING {
         return Reading::Missing;
     }
     Reading::Present {
@@ -21,12 +26,13 @@ fn read_number(m: i64) -> Reading
     }
 }
 
+// The decimal kinds are those up to DEPTH.
 pub fn reading_of(j: Judged, kind: u8) -> Reading
     ensures { λ r. ⌜ r ≡ readingOf kind j ⌝ }
 {
-    if 3 < kind {
+    if kinds::DEPTH < kind {
         return Reading::Refused {
-            number: 22,
+            number: refusals::COLUMN_OF_OTHER_KIND,
             line: 0,
             column: 0,
         };

@@ -3,26 +3,28 @@ ghost use mathlib.Core.Path.{_≡_};
 ghost use Prim.Native.Nat.{_≤_};
 ghost use lib.ListN.{length};
 ghost use Rattle.text.specs.Cells.{pieces, lineAt};
-ghost use Rattle.text.specs.Rows.{keysIn, noted, noKeys, noCells, cellsFrom, endedAt, share};
-ghost use Rattle.text.specs.Scans.{Stop};
+ghost use Rattle.text.specs.Rows.{noted, noKeys, noCells, cellsFrom, endedAt};
+ghost use Rattle.text.specs.Inner.Rows.{keysIn, share};
+ghost use Rattle.text.specs.Inner.Scans.{Stop};
 use crate::CellsRead;
 use crate::Judged;
 use crate::Keys;
 use crate::Span;
 use crate::cells::by_kind;
+use crate::kinds;
+use crate::refusals;
+
+// The size of -999 in millionths.
+const MISSING: u64 = 999000000;
 
 // What a good cell adds to the missing readings.
 fn missing_of(kind: u8, j: Judged) -> u64
     ensures { λ r. ⌜ (r ≡ share kind j) × (r ≤ 1) ⌝ }
 {
-    if kind != 0 {
+    if kind != kinds::MEASURED {
         return 0;
     }
-    if j.minus & (j.size == 999000000) {
-        1
-    } else {
-        0
-    }
+    if j.minus & (j.size == MISSING) { 1 } else { 0 }
 }
 
 // Notes a good cell of a key's kind, which stands from start to end: place and length of EXPOCODE, of STNNBR, and the number of CASTNO.
@@ -30,16 +32,16 @@ fn note(keys: &mut [u64; 5], kind: u8, start: usize, end: usize, size: u64)
     requires { ⌜ (start ≤ end) × (length (now keys) ≡ 5) ⌝ }
     ensures { λ _. ⌜ (keysIn (now (keys .exit)) ≡ noted kind start end size (keysIn (now (keys .entry)))) × (length (now (keys .exit)) ≡ 5) ⌝ }
 {
-    if kind < 6 {
+    if kind < kinds::EXPOCODE {
         return;
     }
-    if kind == 6 {
+    if kind == kinds::EXPOCODE {
         keys[0] = start as u64;
         keys[1] = (end - start) as u64;
-    } else if kind == 7 {
+    } else if kind == kinds::STNNBR {
         keys[2] = start as u64;
         keys[3] = (end - start) as u64;
-    } else if kind == 8 {
+    } else if kind == kinds::CASTNO {
         keys[4] = size;
     }
 }
@@ -82,7 +84,7 @@ pub fn no_cells(i: usize) -> CellsRead
     CellsRead {
         start: i,
         at: i,
-        number: 16,
+        number: refusals::NOT_OF_ITS_KIND,
         minus: false,
         size: 0,
         decimals: 0,
@@ -116,7 +118,7 @@ pub fn from_left(s: &[u8], i: usize, e: usize, separator: u8, kinds: &[u8]) -> C
         missing += missing_of(kind, j);
         note(&mut keys, kind, at, q, j.size);
         k += 1;
-        if (s[q] == 10) | (k == n) {
+        if (s[q] == b'\n') | (k == n) {
             return ended(at, k, missing, keys_of(&keys), j);
         }
         at = q + 1;

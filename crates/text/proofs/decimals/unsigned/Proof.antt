@@ -93,8 +93,8 @@ returns-5 c =
     let d = f .before .before .before .before in
     unsigned-point (d .before .before .pre) (d .digits .ensures) _ _ (f .before .if2 .left) (f .digits2 .ensures) (c .before .before .if4 .left) (c .before .if5 .taken) (c .wrong-cell4 .ensures)
 
-power-requires : tie.Need-power-requires
-power-requires c κs = c .before .if4 .left
+last-place-requires : tie.Need-last-place-requires
+last-place-requires c κs = search needs
 
 mul-close-2 : tie.Need-mul-close-2
 mul-close-2 c =
@@ -102,7 +102,7 @@ mul-close-2 c =
     let f = n .before in
     let b = f .before .before .before in
     let y = digits-scaled (f .digits2 .ensures .over) (digits-small (b .before .digits .ensures .over) (b .if1 .left)) (n .if4 .left) in
-    let z : f .digits2 .result .v * c .before .power .result < 10 ^ 15 = rw (c .before .power .ensures) y in
+    let z : f .digits2 .result .v * c .before .last-place .result < 10 ^ 15 = rw (c .before .last-place .ensures) y in
     omega (arith, z)
 
 close-requires-2 : tie.Need-close-requires-2
@@ -116,7 +116,7 @@ returns-6 c =
     let f = n .before in
     let b = f .before .before .before in
     let d = b .before in
-    unsigned-good (d .before .before .pre) (d .digits .ensures) _ _ (f .before .if2 .left) (f .digits2 .ensures) (n .if4 .left) _ (b .if1 .left) (c .before .before .before .if5 .left) (c .before .before .power .ensures) (c .close2 .ensures)
+    unsigned-good (d .before .before .pre) (d .digits .ensures) _ _ (f .before .if2 .left) (f .digits2 .ensures) (n .if4 .left) _ (b .if1 .left) (c .before .before .before .if5 .left) (c .before .before .last-place .ensures) (c .close2 .ensures)
 
 pub unsigned-spec : {M : Type 1} → statement M
 unsigned-spec =
@@ -138,7 +138,7 @@ unsigned-spec =
     wrong-cell-requires-3
     sub-if5
     wrong-cell-requires-4
-    power-requires
+    last-place-requires
     mul-close-2
     close-requires-2
     returns

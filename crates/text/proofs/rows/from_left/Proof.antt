@@ -1,12 +1,13 @@
 -- What is left to judge, from the present cell and counts, gives what the whole line gives.
-use Prim.Native.Nat.{ℕ, _+_, _-_, _≤_, _<_}
+use Prim.Native.Nat.{ℕ, _+_, _-_, _≤_}
 use mathlib.Core.Path.{_≡_, refl, sym, _∙_, ap, subst}
 use native.Mathlib.Omega.{arith}
 use lib.ListN.{length, getD}
 use borrow.Author.Needs.{needs}
-use Rattle.text.specs.Cells.{pieces, lineAt, next}
-use Rattle.text.specs.Rows.{noKeys, keysIn, cellsFrom}
-use Rattle.text.proofs.CellLaws.{stop-moved, next-within, next-from, stop-short}
+use Rattle.text.specs.Cells.{pieces, lineAt, cellEnd}
+use Rattle.text.specs.Rows.{noKeys, cellsFrom}
+use Rattle.text.specs.Inner.Rows.{keysIn}
+use Rattle.text.proofs.CellLaws.{stop-moved, cellEnd-within, cellEnd-from, stop-short}
 use Rattle.text.proofs.RowLaws.{left, left-none, left-refused, left-ended, left-goes, ends-at}
 use Rattle.text.proofs.rows.from_left.Statement.{statement}
 use Rattle.text.proofs.rows.from_left.Tie as tie
@@ -56,8 +57,8 @@ note-requires c κs =
     let st = l .before .before .before in
     let a = st .args in
     let t = stop-moved (st .pre) (l .loop .inv .0) in
-    let q : b .by-kind .result .at ≡ next (a .separator) (a .s .now) (l .loop .at) = ends-at (a .i) (a .kinds .now) (a .s .now) (a .separator) (l .loop .at) (l .loop .k) (l .loop .missing) (keysIn (l .loop .keys)) (a .e) t (b .before .before .loop-test .taken) (b .by-kind .result) (b .by-kind .ensures) in
-    (omega (arith, q, next-from (a .separator) (a .s .now) (l .loop .at)), l .loop .inv .4)
+    let q : b .by-kind .result .at ≡ cellEnd (a .separator) (a .s .now) (l .loop .at) = ends-at (a .i) (a .kinds .now) (a .s .now) (a .separator) (l .loop .at) (l .loop .k) (l .loop .missing) (keysIn (l .loop .keys)) (a .e) t (b .before .before .loop-test .taken) (b .by-kind .result) (b .by-kind .ensures) in
+    (omega (arith, q, cellEnd-from (a .separator) (a .s .now) (l .loop .at)), l .loop .inv .4)
 
 add-k : tie.Need-add-k Inv-loop μ-loop
 add-k c = search needs
@@ -69,8 +70,8 @@ shared-slice-read-if2 c =
     let st = l .before .before .before in
     let a = st .args in
     let t = stop-moved (st .pre) (l .loop .inv .0) in
-    let q : b .by-kind .result .at ≡ next (a .separator) (a .s .now) (l .loop .at) = ends-at (a .i) (a .kinds .now) (a .s .now) (a .separator) (l .loop .at) (l .loop .k) (l .loop .missing) (keysIn (l .loop .keys)) (a .e) t (b .before .before .loop-test .taken) (b .by-kind .result) (b .by-kind .ensures) in
-    omega (arith, q, next-within t, st .pre .room)
+    let q : b .by-kind .result .at ≡ cellEnd (a .separator) (a .s .now) (l .loop .at) = ends-at (a .i) (a .kinds .now) (a .s .now) (a .separator) (l .loop .at) (l .loop .k) (l .loop .missing) (keysIn (l .loop .keys)) (a .e) t (b .before .before .loop-test .taken) (b .by-kind .result) (b .by-kind .ensures) in
+    omega (arith, q, cellEnd-within t, st .pre .room)
 
 keys-of-requires-2 : tie.Need-keys-of-requires-2 Inv-loop μ-loop
 keys-of-requires-2 c κs = search needs
@@ -96,8 +97,8 @@ add-at c =
     let st = l .before .before .before in
     let a = st .args in
     let t = stop-moved (st .pre) (l .loop .inv .0) in
-    let q : b .by-kind .result .at ≡ next (a .separator) (a .s .now) (l .loop .at) = ends-at (a .i) (a .kinds .now) (a .s .now) (a .separator) (l .loop .at) (l .loop .k) (l .loop .missing) (keysIn (l .loop .keys)) (a .e) t (b .before .before .loop-test .taken) (b .by-kind .result) (b .by-kind .ensures) in
-    omega (arith, q, next-within t, st .pre .room)
+    let q : b .by-kind .result .at ≡ cellEnd (a .separator) (a .s .now) (l .loop .at) = ends-at (a .i) (a .kinds .now) (a .s .now) (a .separator) (l .loop .at) (l .loop .k) (l .loop .missing) (keysIn (l .loop .keys)) (a .e) t (b .before .before .loop-test .taken) (b .by-kind .result) (b .by-kind .ensures) in
+    omega (arith, q, cellEnd-within t, st .pre .room)
 
 loop-less : tie.Need-loop-less Inv-loop μ-loop
 loop-less c = search needs
@@ -109,11 +110,11 @@ loop-again c =
     let st = l .before .before .before in
     let a = st .args in
     let t = stop-moved (st .pre) (l .loop .inv .0) in
-    let q : b .by-kind .result .at ≡ next (a .separator) (a .s .now) (l .loop .at) = ends-at (a .i) (a .kinds .now) (a .s .now) (a .separator) (l .loop .at) (l .loop .k) (l .loop .missing) (keysIn (l .loop .keys)) (a .e) t (b .before .before .loop-test .taken) (b .by-kind .result) (b .by-kind .ensures) in
+    let q : b .by-kind .result .at ≡ cellEnd (a .separator) (a .s .now) (l .loop .at) = ends-at (a .i) (a .kinds .now) (a .s .now) (a .separator) (l .loop .at) (l .loop .k) (l .loop .missing) (keysIn (l .loop .keys)) (a .e) t (b .before .before .loop-test .taken) (b .by-kind .result) (b .by-kind .ensures) in
     let n = c .before .before in
     let g = left-goes (a .i) (a .kinds .now) (a .s .now) (a .separator) (l .loop .at) (l .loop .k) (l .loop .missing) (keysIn (l .loop .keys)) (a .e) t (b .before .before .loop-test .taken) (b .by-kind .result) (b .by-kind .ensures) (n .before .before .before .if1 .left)
     (l .loop .missing + n .before .before .missing-of .result) (ap (λ (x : ℕ). l .loop .missing + x) (n .before .before .missing-of .ensures .0)) _ (n .note .ensures .0) (c .if2 .left) in
-    let u = stop-short (stop-moved (st .pre) (next-within t)) (subst (λ (x : ℕ). getD (a .s .now) x 0 ≡ 10 → ⊥) q (g .0)) in
+    let u = stop-short (stop-moved (st .pre) (cellEnd-within t)) (subst (λ (x : ℕ). getD (a .s .now) x 0 ≡ 10 → ⊥) q (g .0)) in
     (omega (arith, q, u), omega arith, refl, omega (arith, n .before .before .missing-of .ensures .1), n .note .ensures .1, l .loop .inv .5 ∙ g .1)
 
 no-cells-requires : tie.Need-no-cells-requires Inv-loop μ-loop

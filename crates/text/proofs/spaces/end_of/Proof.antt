@@ -4,13 +4,13 @@ use native.Mathlib.Nat.{le-trans}
 use native.Mathlib.Omega.{arith}
 use lib.Seq.{slice}
 use borrow.Author.Needs.{needs}
-use Rattle.text.specs.Spaces.{back}
-use Rattle.text.proofs.SpaceLaws.{back-stop, back-step, back-none, span-end}
+use Rattle.text.specs.Spaces.{trimEnd}
+use Rattle.text.proofs.SpaceLaws.{trimEnd-stop, trimEnd-step, trimEnd-none, span-end}
 use Rattle.text.proofs.spaces.end_of.Statement.{statement}
 use Rattle.text.proofs.spaces.end_of.Tie as tie
 
 abbrev Inv-loop : tie.InvT-loop
-Inv-loop s a e j₀ j = (a ≤ j) × (j ≤ e) × (back (slice a e s) ≡ back (slice a j s))
+Inv-loop s a e j₀ j = (a ≤ j) × (j ≤ e) × (trimEnd (slice a e s) ≡ trimEnd (slice a j s))
 
 abbrev μ-loop : tie.MeasureT-loop
 μ-loop s a e j₀ j = j
@@ -29,7 +29,7 @@ returns c =
     let l = c .before .before in
     let v = l .before .loop .inv in
     let p = l .before .before .pre in
-    span-end _ _ _ (p .0) (p .1) _ (v .0) (v .1) (v .2 ∙ back-stop _ _ _ (l .loop-test .taken) (le-trans (v .1) (p .1)) (c .if1 .taken))
+    span-end _ _ _ (p .0) (p .1) _ (v .0) (v .1) (v .2 ∙ trimEnd-stop _ _ _ (l .loop-test .taken) (le-trans (v .1) (p .1)) (c .if1 .taken))
 
 loop-less : tie.Need-loop-less Inv-loop μ-loop
 loop-less c = search needs
@@ -38,13 +38,13 @@ loop-again : tie.Need-loop-again Inv-loop μ-loop
 loop-again c =
     let l = c .before .before in
     let v = l .before .loop .inv in
-    (omega arith, omega arith, v .2 ∙ back-step _ _ _ (l .loop-test .taken) (le-trans (v .1) (l .before .before .pre .1)) (c .if1 .left))
+    (omega arith, omega arith, v .2 ∙ trimEnd-step _ _ _ (l .loop-test .taken) (le-trans (v .1) (l .before .before .pre .1)) (c .if1 .left))
 
 returns-2 : tie.Need-returns-2 Inv-loop μ-loop
 returns-2 c =
     let v = c .before .loop .inv in
     let p = c .before .before .pre in
-    span-end _ _ _ (p .0) (p .1) _ (v .0) (v .1) (v .2 ∙ back-none _ _ _ (c .loop-test .left) (v .0))
+    span-end _ _ _ (p .0) (p .1) _ (v .0) (v .1) (v .2 ∙ trimEnd-none _ _ _ (c .loop-test .left) (v .0))
 
 pub end-of-spec : {M : Type 1} → statement M
 end-of-spec =

@@ -2,13 +2,13 @@ use Prim.Native.Nat.{_≤_, _-_}
 use mathlib.Core.Path.{_≡_, _∙_, refl}
 use lib.Seq.{slice}
 use borrow.Author.Needs.{needs}
-use Rattle.text.specs.Spaces.{lead}
-use Rattle.text.proofs.SpaceLaws.{lead-stop, lead-step, lead-none}
+use Rattle.text.specs.Spaces.{trimFront}
+use Rattle.text.proofs.SpaceLaws.{trimFront-stop, trimFront-step, trimFront-none}
 use Rattle.text.proofs.spaces.start_of.Statement.{statement}
 use Rattle.text.proofs.spaces.start_of.Tie as tie
 
 abbrev Inv-loop : tie.InvT-loop
-Inv-loop s a e i₀ i = (a ≤ i) × (i ≤ e) × (lead (slice a e s) ≡ lead (slice i e s))
+Inv-loop s a e i₀ i = (a ≤ i) × (i ≤ e) × (trimFront (slice a e s) ≡ trimFront (slice i e s))
 
 abbrev μ-loop : tie.MeasureT-loop
 μ-loop s a e i₀ i = e - i
@@ -23,7 +23,7 @@ returns : tie.Need-returns Inv-loop μ-loop
 returns c =
     let l = c .before .before in
     let v = l .before .loop .inv in
-    (v .0, v .1, v .2 ∙ lead-stop _ _ _ (l .loop-test .taken) (l .before .before .pre .1) (c .if1 .taken))
+    (v .0, v .1, v .2 ∙ trimFront-stop _ _ _ (l .loop-test .taken) (l .before .before .pre .1) (c .if1 .taken))
 
 add-i : tie.Need-add-i Inv-loop μ-loop
 add-i c = search needs
@@ -35,12 +35,12 @@ loop-again : tie.Need-loop-again Inv-loop μ-loop
 loop-again c =
     let l = c .before .before in
     let v = l .before .loop .inv in
-    (search needs, search needs, v .2 ∙ lead-step _ _ _ (l .loop-test .taken) (l .before .before .pre .1) (c .if1 .left))
+    (search needs, search needs, v .2 ∙ trimFront-step _ _ _ (l .loop-test .taken) (l .before .before .pre .1) (c .if1 .left))
 
 returns-2 : tie.Need-returns-2 Inv-loop μ-loop
 returns-2 c =
     let v = c .before .loop .inv in
-    (v .0, v .1, v .2 ∙ lead-none _ _ _ (c .loop-test .left) (v .1))
+    (v .0, v .1, v .2 ∙ trimFront-none _ _ _ (c .loop-test .left) (v .1))
 
 pub start-of-spec : {M : Type 1} → statement M
 start-of-spec =

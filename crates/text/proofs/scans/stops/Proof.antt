@@ -2,8 +2,8 @@
 use borrow.Author.Needs.{needs}
 use borrow.Author.Tests.{le-leb, lt-leb, lt-ltb, le-ltb}
 use Rattle.text.specs.Judge.{stopsAt}
-use Rattle.text.proofs.runs.stops.Statement.{statement}
-use Rattle.text.proofs.runs.stops.Tie as tie
+use Rattle.text.proofs.scans.stops.Statement.{statement}
+use Rattle.text.proofs.scans.stops.Tie as tie
 
 returns : tie.Need-returns
 unfolding stopsAt

@@ -1,9 +1,9 @@
-// Runs of bytes from a place of a line whose line feed is known, so that no scan tests for the end.
+// Scans of bytes from a place of a line whose line feed is known, so that no scan tests for the end.
 ghost use mathlib.Core.Path.{_≡_};
 ghost use Prim.Native.Nat.{_+_, _^_, _≤_, _<_};
 ghost use Rattle.text.specs.Judge.{stopsAt};
-ghost use Rattle.text.specs.Cells.{next};
-ghost use Rattle.text.specs.Scans.{Stop, Spaced, Counted, Worded};
+ghost use Rattle.text.specs.Cells.{cellEnd};
+ghost use Rattle.text.specs.Inner.Scans.{Stop, Spaced, Counted, Worded};
 
 // The digits passed end at `at` and write v.
 pub struct DigitRun {
@@ -21,7 +21,7 @@ pub fn stops(s: &[u8], i: usize, e: usize, separator: u8) -> bool
     if s.len() <= e {
         return false;
     }
-    (s[e] == 10) & ((separator == 44) | (separator == 10) | (separator == 9))
+    (s[e] == b'\n') & ((separator == b',') | (separator == b'\n') | (separator == b'\t'))
 }
 
 pub fn spaces(s: &[u8], i: usize, e: usize, separator: u8) -> usize
@@ -29,7 +29,7 @@ pub fn spaces(s: &[u8], i: usize, e: usize, separator: u8) -> usize
     ensures { λ r. ⌜ Spaced (now (s .entry)) i e r ⌝ }
 {
     let mut p = i;
-    while s[p] == 32 {
+    while s[p] == b' ' {
         p += 1;
     }
     p
@@ -44,13 +44,13 @@ pub fn digits(s: &[u8], i: usize, e: usize, separator: u8, limit: usize, v0: u64
     let mut v = v0;
     while p < limit {
         let d = s[p];
-        if d < 48 {
+        if d < b'0' {
             return DigitRun { at: p, v };
         }
-        if 57 < d {
+        if b'9' < d {
             return DigitRun { at: p, v };
         }
-        v = v * 10 + ((d - 48) as u64);
+        v = v * 10 + ((d - b'0') as u64);
         p += 1;
     }
     DigitRun { at: p, v }
@@ -59,11 +59,11 @@ pub fn digits(s: &[u8], i: usize, e: usize, separator: u8, limit: usize, v0: u64
 // Where the cell ends that goes on at i.
 pub fn text_end(s: &[u8], i: usize, e: usize, separator: u8) -> usize
     requires { ⌜ Stop separator (now s) i e ⌝ }
-    ensures { λ r. ⌜ (r ≡ next separator (now (s .entry)) i) × (r ≤ e) ⌝ }
+    ensures { λ r. ⌜ (r ≡ cellEnd separator (now (s .entry)) i) × (r ≤ e) ⌝ }
 {
     let mut p = i;
     while s[p] != separator {
-        if s[p] == 10 {
+        if s[p] == b'\n' {
             return p;
         }
         p += 1;
@@ -79,7 +79,7 @@ pub fn word_end(s: &[u8], i: usize, e: usize, separator: u8) -> usize
     let mut p = i;
     loop {
         let b = s[p];
-        if (b == 44) | (b == 32) | (b == 47) | (b == separator) | (b == 10) {
+        if (b == b',') | (b == b' ') | (b == b'/') | (b == separator) | (b == b'\n') {
             return p;
         }
         p += 1;

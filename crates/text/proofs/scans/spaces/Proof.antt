@@ -4,10 +4,10 @@ use native.Mathlib.Omega.{arith}
 use borrow.Author.Needs.{needs}
 use borrow.Author.Tests.{eq-eqb, ne-eqb}
 use Rattle.text.specs.Bytes.{isSpace}
-use Rattle.text.specs.Scans.{Scan}
+use Rattle.text.specs.Inner.Scans.{Scan}
 use Rattle.text.proofs.CellLaws.{stop-moved, stop-short}
-use Rattle.text.proofs.runs.spaces.Statement.{statement}
-use Rattle.text.proofs.runs.spaces.Tie as tie
+use Rattle.text.proofs.scans.spaces.Statement.{statement}
+use Rattle.text.proofs.scans.spaces.Tie as tie
 
 abbrev Inv-loop : tie.InvT-loop
 Inv-loop s i e separator p₀ p = (i ≤ p) × (p ≤ e) × Scan isSpace s i p

@@ -4,11 +4,11 @@ use mathlib.Core.Path.{_≡_}
 use native.Mathlib.Omega.{arith}
 use lib.ListN.{getD}
 use borrow.Author.Needs.{needs}
-use Rattle.text.specs.Scans.{Written}
+use Rattle.text.specs.Inner.Scans.{Written}
 use Rattle.text.proofs.CellLaws.{stop-moved, stop-short}
 use Rattle.text.proofs.ScanLaws.{digit-yes, digit-low, digit-high, digits-room}
-use Rattle.text.proofs.runs.digits.Statement.{statement}
-use Rattle.text.proofs.runs.digits.Tie as tie
+use Rattle.text.proofs.scans.digits.Statement.{statement}
+use Rattle.text.proofs.scans.digits.Tie as tie
 
 abbrev Inv-loop : tie.InvT-loop
 Inv-loop s i e separator limit v0 p₀ v₀ p v = (i ≤ p) × (p ≤ e) × (p ≤ limit) × Written s i v0 p (p - i) v

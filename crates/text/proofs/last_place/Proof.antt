@@ -1,7 +1,7 @@
-use mathlib.Core.Path.{_≡_}
 use native.Mathlib.Omega.{arith}
-use Rattle.text.proofs.decimals.power.Statement.{statement}
-use Rattle.text.proofs.decimals.power.Tie as tie
+use Rattle.text.proofs.DecimalLaws.{place-past}
+use Rattle.text.proofs.last_place.Statement.{statement}
+use Rattle.text.proofs.last_place.Tie as tie
 
 returns : tie.Need-returns
 returns c = rw (c .match .keys1)
@@ -22,8 +22,8 @@ returns-6 : tie.Need-returns-6
 returns-6 c = rw (c .match .keys6)
 
 returns-7 : tie.Need-returns-7
-returns-7 c = let z : c .before .args .n ≡ 6 = omega arith in rw z
+returns-7 c = place-past _ (omega arith)
 
-pub power-spec : {M : Type 1} → statement M
-power-spec =
+pub last-place-spec : {M : Type 1} → statement M
+last-place-spec =
     tie.close (tie.spec returns returns-2 returns-3 returns-4 returns-5 returns-6 returns-7)

@@ -2,11 +2,11 @@
 use Prim.Native.Nat.{_-_, _≤_}
 use native.Mathlib.Omega.{arith}
 use borrow.Author.Needs.{needs}
-use Rattle.text.specs.Scans.{Scan, wordByte}
+use Rattle.text.specs.Inner.Scans.{Scan, wordByte}
 use Rattle.text.proofs.CellLaws.{stop-moved}
 use Rattle.text.proofs.ScanLaws.{word-short}
-use Rattle.text.proofs.runs.word_end.Statement.{statement}
-use Rattle.text.proofs.runs.word_end.Tie as tie
+use Rattle.text.proofs.scans.word_end.Statement.{statement}
+use Rattle.text.proofs.scans.word_end.Tie as tie
 
 abbrev Inv-loop : tie.InvT-loop
 Inv-loop s i e separator p₀ p = (i ≤ p) × (p ≤ e) × Scan (wordByte separator) s i p

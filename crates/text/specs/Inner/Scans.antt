@@ -1,21 +1,20 @@
--- The words of the contracts of the code's own scans; no promise of a public call cites them.
+-- The words of the contracts of the code's own scans (src/scans.rt), and what they leave of a cell; no promise of a public call cites them.
 use Prim.Native.Nat.{ℕ, _+_, _-_, _*_, _≤_, _<_}
 use mathlib.Core.Path.{_≡_}
 use mathlib.Core.Bool.{Bool, true, false, not, _||_}
 use mathlib.Core.List.{List, [], _∷_}
 use lib.ListN.{length, getD}
 use lib.Dec.{eqb}
-use Rattle.text.specs.Bytes.{isSpace, isDigit}
+use Rattle.text.specs.Bytes.{lineFeed, space, comma, slash, isSpace, isDigit}
 use Rattle.text.specs.Cells.{cellAt, separates}
-use Rattle.text.specs.Spaces.{back}
-use Rattle.text.specs.Decimals.{Verdict, blank, wrong, outOfRange, good}
-use Rattle.text.specs.Judge.{keyByte}
+use Rattle.text.specs.Spaces.{trimEnd}
+use Rattle.text.specs.Verdicts.{Verdict, wrong}
 
 -- a scan from i stops at e, where the line feed stands; c parts cells
 pub record Stop (c : ℕ) (s : List ℕ) (i e : ℕ) : Type 0 where
   pub inside : i ≤ e
   pub room : e < length s
-  pub feed : getD s e 0 ≡ 10
+  pub feed : getD s e 0 ≡ lineFeed
   pub parts : separates c ≡ true
 
 -- from i up to q every byte passes t
@@ -28,12 +27,14 @@ pub data Written (s : List ℕ) (i v0 : ℕ) : ℕ → ℕ → ℕ → Type 0 wh
   still : Written s i v0 i 0 v0
   more : {q n v : ℕ} → Written s i v0 q n v → q < length s → isDigit (getD s q 0) ≡ true → Written s i v0 (q + 1) (n + 1) (v * 10 + (getD s q 0 - 48))
 
+-- spaces from i stop at r
 pub record Spaced (s : List ℕ) (i e r : ℕ) : Type 0 where
   pub low : i ≤ r
   pub high : r ≤ e
   pub over : Scan isSpace s i r
   pub stops : isSpace (getD s r 0) ≡ false
 
+-- digits from i stop at r, at the latest at limit, and make v0 into v
 pub record Counted (s : List ℕ) (i e limit v0 r v : ℕ) : Type 0 where
   pub low : i ≤ r
   pub high : r ≤ e
@@ -41,14 +42,11 @@ pub record Counted (s : List ℕ) (i e limit v0 r v : ℕ) : Type 0 where
   pub over : Written s i v0 r (r - i) v
   pub stops : r < limit → isDigit (getD s r 0) ≡ false
 
--- where a cell parted by c ends
-abbrev pub isEnd : ℕ → ℕ → Bool
-isEnd c x = eqb x c || eqb x 10
-
 -- a byte inside a key text's word
 abbrev pub wordByte : ℕ → ℕ → Bool
-wordByte c x = not (eqb x 44 || eqb x 32 || eqb x 47 || eqb x c || eqb x 10)
+wordByte c x = not (eqb x comma || eqb x space || eqb x slash || eqb x c || eqb x lineFeed)
 
+-- a key text's bytes from i stop at r
 pub record Worded (c : ℕ) (s : List ℕ) (i e r : ℕ) : Type 0 where
   pub low : i ≤ r
   pub high : r ≤ e
@@ -57,7 +55,7 @@ pub record Worded (c : ℕ) (s : List ℕ) (i e r : ℕ) : Type 0 where
 
 -- what is left of the cell from p on, without the spaces at its end
 unfoldable pub body : ℕ → List ℕ → ℕ → List ℕ
-body c s p = back (cellAt c s p)
+body c s p = trimEnd (cellAt c s p)
 
 -- nothing may be left
 abbrev pub closing : Verdict → List ℕ → Verdict
