@@ -23,8 +23,8 @@ use Rattle.correction.specs.declared.writing.CellPlaces.{CellPlaces}
 use Rattle.correction.specs.Texts.{numberText, flagText, atRight}
 use Rattle.correction.specs.declared.Order.{Order}
 use Rattle.correction.specs.Corrections.{entry, isThere, noSuchCell, badFlag, anyLonger, textTooLong, test, testsOf, textAt, ownText, answerBy, answerOf, Fill, fill, fillAt, fillsBy, fillsOf, filled, correctedOf}
-use Rattle.correction.specs.WriteWords.{InCell, Writes, fillsAt}
-use Rattle.correction.specs.DecideWords.{firstNumber, testsAt, Decides}
+use Rattle.correction.specs.Inner.Writing.{InCell, Writes, fillsAt}
+use Rattle.correction.specs.Inner.Deciding.{firstNumber, testsAt, Decides}
 use Rattle.correction.proofs.TextLaws.{number-some, flag-in}
 use Rattle.correction.proofs.GeometryLaws.{shape, begin, widthAt, width-cell, Inside, inside-of}
 use Rattle.correction.proofs.TestLaws.{first-here, first-later, byNumber, first-number}

@@ -13,7 +13,7 @@ use borrow.Author.Tests.{lt-ltb, le-ltb, ltb-false}
 use Rattle.correction.specs.Texts.{size, numberText}
 use Rattle.correction.specs.declared.Order.{Order}
 use Rattle.correction.specs.Corrections.{badNumber, inSet, wrongFlag}
-use Rattle.correction.specs.WriteWords.{textOf}
+use Rattle.correction.specs.Inner.Writing.{textOf}
 use Rattle.correction.proofs.WriteLaws.{number-as}
 
 -- ---- 23, with the number's size n as the code has it

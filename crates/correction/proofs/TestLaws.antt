@@ -8,7 +8,7 @@ use lib.Dec.{eqb}
 use Rattle.correction.specs.declared.Answer.{Answer}
 use Rattle.correction.specs.declared.Answer.the-variants.{Applied, Refused}
 use Rattle.correction.specs.Corrections.{Test, firstThat}
-use Rattle.correction.specs.DecideWords.{firstNumber}
+use Rattle.correction.specs.Inner.Deciding.{firstNumber}
 use Rattle.correction.specs.Demand3.{IsFirst, nothing, here, later, NoneHolds}
 
 pub not-applied : (a b c : ℕ) → Refused a b c ≡ Applied → ⊥

@@ -16,7 +16,7 @@ use borrow.Author.Tests.{ne-eqb}
 use Rattle.text.specs.declared.Span.{Span}
 use Rattle.correction.specs.Texts.{size, isBelow, lastDigits, wholeText, fractionText, signText, numberText, atRight}
 use Rattle.correction.specs.Corrections.{patch, fill, filled}
-use Rattle.correction.specs.WriteWords.{textOf, Room, Put, InCell}
+use Rattle.correction.specs.Inner.Writing.{textOf, Room, Put, InCell}
 use Rattle.correction.proofs.DigitLaws.{last-length, whole-last}
 use Rattle.correction.proofs.SizeLaws.{below-is}
 use Rattle.correction.proofs.TextLaws.{atRight-length}

@@ -1,7 +1,7 @@
 // A correction decided: the file's refusal or 21, then the rules 22 to 25 in number order. Nothing is written here.
 ghost use mathlib.Core.Path.{_≡_};
 ghost use Rattle.correction.specs.Corrections.{badNumber, wrongFlag};
-ghost use Rattle.correction.specs.DecideWords.{firstNumber, testsAt, Decides};
+ghost use Rattle.correction.specs.Inner.Deciding.{firstNumber, testsAt, Decides};
 use crate::Order;
 use crate::numbers::last_place;
 use crate::numbers::size_of;

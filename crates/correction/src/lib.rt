@@ -6,7 +6,7 @@ ghost use Rattle.correction.specs.ListLines.{lineRead};
 use text::Span;
 
 mod deciding;
-mod lines;
+mod list_lines;
 mod numbers;
 mod writing;
 
@@ -60,10 +60,10 @@ pub fn correct(file: &mut [u8], order: Order) -> Answer
 pub fn read_line(line: &[u8]) -> ListLine
     ensures { λ r. ⌜ r ≡ lineRead (now (line .entry)) ⌝ }
 {
-    if !lines::is_one_line(line) {
-        return lines::malformed();
+    if !list_lines::is_one_line(line) {
+        return list_lines::malformed();
     }
-    lines::fields_of(line)
+    list_lines::fields_of(line)
 }
 
 // The column name of a list line as a part of the line itself; the empty part at its start where the line is malformed.

@@ -6,7 +6,7 @@ ghost use Prim.Native.Nat.{_-_, _≤_};
 ghost use lib.ListN.{length, replicate};
 ghost use Rattle.correction.specs.Texts.{lastDigits, wholeText, fractionText, signText, flagText, atRight};
 ghost use Rattle.correction.specs.Corrections.{patch, filled};
-ghost use Rattle.correction.specs.WriteWords.{textOf, Room, Put, InCell, Writes, fillsAt};
+ghost use Rattle.correction.specs.Inner.Writing.{textOf, Room, Put, InCell, Writes, fillsAt};
 use crate::Order;
 use crate::numbers::digit_count;
 use crate::numbers::last_place;

@@ -11,7 +11,7 @@ use Rattle.correction.specs.declared.Answer.the-variants.{Applied, Refus
 use Rattle.correction.specs.declared.deciding.Decision.{Decision}
 use Rattle.correction.specs.Texts.{numberText}
 use Rattle.correction.specs.Corrections.{badNumber, wrongFlag, Test, test, answerOf, filled, correctedOf}
-use Rattle.correction.specs.WriteWords.{Writes, fillsAt}
+use Rattle.correction.specs.Inner.Writing.{Writes, fillsAt}
 
 -- the number of the first test that holds, 0 where none does
 unfoldable pub firstNumber : List Test → ℕ
