@@ -85,6 +85,19 @@ module _ (f : List ℕ) (o : Order) where
           (subst (λ (x : Answer). All (Fit sh) (ifApplied x (writes entriesOf (accepted t n) sh o))) d a)
           (subst (λ (x : Answer). Stands (grid (correctedOf f o)) (ifApplied x (writes entriesOf (accepted t n) sh o))) d s)
 
+  cells-filled : map (λ (x : Fill). x .place) (fillsOf f o) ≡ cellsOf f (o .row) (o .column)
+  unfolding measurementCells
+  cells-filled = go (outcomeOf f)
+    where
+      flags : (t : Table) (b : Bool) → map (λ (x : Fill). x .place) (map (fillAt t f (o .row)) (cond b (entry (flagColumn t (o .column)) (flagText (o .flag)) ∷ []) []))
+          ≡ cond b (cond b (cellPlace t f (o .row) (flagColumn t (o .column))) nowhere ∷ []) []
+      flags t true = refl
+      flags t false = refl
+
+      go : (p : Outcome) → map (λ (x : Fill). x .place) (fillsBy f o p) ≡ cellsBy f (o .row) (o .column) p
+      go (refused x y z) = refl
+      go (accepted t n) = ap (λ (ps : List Span). cellPlace t f (o .row) (o .column) ∷ ps) (flags t (hasFlag t (o .column)))
+
   pub exactly : Exactly f o
   exactly = record {
     only = may-apply f o;
@@ -92,6 +105,7 @@ module _ (f : List ℕ) (o : Order) where
     file = λ a b c e. answer-by f o (refused a b c) e;
     first = first-test f o;
     unchanged = refused-same f o;
+    cells = cells-filled;
     fills = fills;
   }
 

@@ -70,7 +70,8 @@ pub record Exactly (f : List ℕ) (o : Order) : Type 0 where
   pub file : (a b c : ℕ) → outcomeOf f ≡ refused a b c → answerOf f o ≡ Refused a b c
   pub first : (t : Table) (n : ℕ) → outcomeOf f ≡ accepted t n → IsFirst (testsOf t n (ownText t f o) o) (answerOf f o)
   pub unchanged : (a b c : ℕ) → answerOf f o ≡ Refused a b c → correctedOf f o ≡ f
-  -- each text at the right of its cell
+  -- what it fills are the measurement's cells, with each text at the right of its cell
+  pub cells : map (λ (x : Fill). x .place) (fillsOf f o) ≡ cellsOf f (o .row) (o .column)
   pub fills : answerOf f o ≡ Applied → map (λ (x : Fill). textAt (correctedOf f o) (x .place)) (fillsOf f o) ≡ map filledText (fillsOf f o)
 
 -- the answers, one for each correction of the list
