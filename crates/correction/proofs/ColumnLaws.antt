@@ -91,7 +91,11 @@ pub record Measured (t : Table) (c : ℕ) : Type 0 where
   pub in-line : c - 1 < length (t .names)
   pub kind : kindAt t c ≡ 0
 
--- the cells of a measurement by their roles: 0 its value, 1 its flag. j is the column of the cell of that role
+-- the cells of a measurement by their roles: 0 its value, 1 its flag; there are so many
+abbrev pub roles : ℕ
+roles = 2
+
+-- j is the column of the cell of that role
 abbrev pub CellOf : Table → ℕ → ℕ → ℕ → Type 0
 CellOf t c zero j = c - 1 ≡ j - 1
 CellOf t c (suc zero) j = FlagOf t c j

@@ -19,6 +19,7 @@ use Rattle.laws.proofs.MissingLaws.{missing-counted}
 use Rattle.correction.specs.Demand3.{Measurement, measurementOf, correctedAll, answersTo, EachExactly, names, ifApplied, orElse, lastThat, any, lastTo, ReadsAs, InNone, Kept, AfterList}
 use Rattle.correction.proofs.PutLaws.{AllApart}
 use Rattle.correction.proofs.PlanLaws.{Part}
+use Rattle.correction.proofs.ColumnLaws.{roles}
 use Rattle.correction.proofs.KeepsLaws.{partOf, planOf, places-kept}
 use Rattle.correction.proofs.PartLaws.{valuePart, part-cells, all-cells, parts-apart}
 use Rattle.correction.proofs.ReadLaws.{Set, set-reads, set-now, set-on}
@@ -135,7 +136,7 @@ module _ (es : Part) (p : Order → Bool) (now : (f : List ℕ) (o : Order) → 
 
 -- ---- value and flag are left by a correction that does not name the measurement
 value-apart : (f : List ℕ) (o q : Order) → names f q (measurementOf f o) ≡ false → AllApart (partOf valuePart f o) (planOf f q)
-value-apart f o q e = parts-apart valuePart entriesOf f o q 0 2 0 2 (λ t m. part-cells t o m) (λ t m. all-cells t q m) (λ r c. absurd (names-other f o q e r c))
+value-apart f o q e = parts-apart valuePart entriesOf f o q 0 2 0 roles (λ t m. part-cells t o m) (λ t m. all-cells t q m) (λ r c. absurd (names-other f o q e r c))
 
 reads-last : (f : List ℕ) (os : List Order) (m : Measurement) (o : Order) → lastTo f os m ≡ some o → ReadsAs (correctedAll f os) m o
 reads-last f os m o e =
@@ -143,36 +144,43 @@ reads-last f os m o e =
     subst (λ (x : Measurement). ReadsAs (correctedAll f os) x o) (sym (w .is)) (set-reads (correctedAll f os) o (w .set))
 
 -- ---- the bytes outside
--- the cells of the measurement that the first correction of a list names
-head-named : (p : Order → Bool) (cells : ℕ → ℕ → List Span) (f : List ℕ) (q : Order) (os : List Order) (i : ℕ)
-    → ((m : Measurement) (o : Order) → lastThat p f (q ∷ os) m ≡ some o → InNone (cells (m .row) (m .column)) i) → answerOf f q ≡ Applied → p q ≡ true → InNone (cells (q .row) (q .column)) i
-unfolding lastThat
-head-named p cells f q os i h a g = named (lastThat p (correctedOf f q) os own) refl
-  where
-    own : Measurement
-    own = measurementOf f q
+-- the offset i lies in none of the cells of the measurements to which the list has a last correction of a sort
+abbrev Spared : (Order → Bool) → (List ℕ → ℕ → ℕ → List Span) → List ℕ → List Order → ℕ → Type 0
+Spared p cells f os i = (m : Measurement) (o : Order) → lastThat p f os m ≡ some o → InNone (cells f (m .row) (m .column)) i
 
-    named : (l : Option Order) → lastThat p (correctedOf f q) os own ≡ l → InNone (cells (own .row) (own .column)) i
-    named none r =
-        h own q
-        (ap (λ (x : Option Order). orElse x (ifApplied (answerOf f q) (p q && names f q own) q)) r
-        ∙ ap (λ (x : Answer). ifApplied x (p q && names f q own) q) a
-        ∙ ap (λ (b : Bool). cond (b && names f q own) (some q) none) g
-        ∙ ap (λ (b : Bool). cond b (some q) none) (names-own f q))
-    named (some o) r = h own o (ap (λ (x : Option Order). orElse x (ifApplied (answerOf f q) (p q && names f q own) q)) r)
+module _ (p : Order → Bool) (cells : List ℕ → ℕ → ℕ → List Span) (f : List ℕ) (q : Order) (os : List Order) (i : ℕ) (h : Spared p cells f (q ∷ os) i) where
+  -- so in none of those of the first, if it is of the sort and applied
+  spared-first : answerOf f q ≡ Applied → p q ≡ true → InNone (cells f (q .row) (q .column)) i
+  unfolding lastThat
+  spared-first a g = named (lastThat p (correctedOf f q) os own) refl
+    where
+      own : Measurement
+      own = measurementOf f q
 
-outside-all : (os : List Order) (f : List ℕ) (i z : ℕ) → ((m : Measurement) (o : Order) → lastTo f os m ≡ some o → InNone (cellsOf f (m .row) (m .column)) i)
-    → getD (correctedAll f os) i z ≡ getD f i z
-unfolding correctedAll lastThat
+      named : (l : Option Order) → lastThat p (correctedOf f q) os own ≡ l → InNone (cells f (own .row) (own .column)) i
+      named none r =
+          h own q
+          (ap (λ (x : Option Order). orElse x (ifApplied (answerOf f q) (p q && names f q own) q)) r
+          ∙ ap (λ (x : Answer). ifApplied x (p q && names f q own) q) a
+          ∙ ap (λ (b : Bool). cond (b && names f q own) (some q) none) g
+          ∙ ap (λ (b : Bool). cond b (some q) none) (names-own f q))
+      named (some o) r = h own o (ap (λ (x : Option Order). orElse x (ifApplied (answerOf f q) (p q && names f q own) q)) r)
+
+  -- and in none for the rest of the list, where the cells stay
+  spared-rest : ((r c : ℕ) → cells (correctedOf f q) r c ≡ cells f r c) → Spared p cells (correctedOf f q) os i
+  unfolding lastThat
+  spared-rest k m o e =
+      subst (λ (ps : List Span). InNone ps i) (sym (k (m .row) (m .column)))
+      (h m o (ap (λ (x : Option Order). orElse x (ifApplied (answerOf f q) (p q && names f q m) q)) e))
+
+outside-all : (os : List Order) (f : List ℕ) (i z : ℕ) → Spared any cellsOf f os i → getD (correctedAll f os) i z ≡ getD f i z
+unfolding correctedAll
 outside-all [] f i z h = refl
-outside-all (q ∷ os) f i z h =
-    outside-all os (correctedOf f q) i z
-    (λ m o e. subst (λ (ps : List Span). InNone ps i) (sym (places-kept f q (m .row) (m .column))) (h m o (ap (λ (x : Option Order). orElse x (ifApplied (answerOf f q) (names f q m) q)) e)))
-    ∙ head (answerOf f q) refl
+outside-all (q ∷ os) f i z h = outside-all os (correctedOf f q) i z (spared-rest any cellsOf f q os i h (places-kept f q)) ∙ first (answerOf f q) refl
   where
-    head : (a : Answer) → answerOf f q ≡ a → getD (correctedOf f q) i z ≡ getD f i z
-    head (Refused x y w) e = ap (λ (g : List ℕ). getD g i z) (refused-same f q x y w e)
-    head Applied e = one-outside f q i z (head-named any (cellsOf f) f q os i h e refl)
+    first : (a : Answer) → answerOf f q ≡ a → getD (correctedOf f q) i z ≡ getD f i z
+    first (Refused x y w) e = ap (λ (g : List ℕ). getD g i z) (refused-same f q x y w e)
+    first Applied e = one-outside f q i z (spared-first any cellsOf f q os i h e refl)
 
 pub after-list : (f : List ℕ) (os : List Order) → AfterList f os
 after-list f os = record {

@@ -19,6 +19,7 @@ use Rattle.correction.proofs.PutLaws.{Put, puts, AllApart, puts-comm}
 use Rattle.correction.proofs.TestLaws.{not-applied}
 use Rattle.correction.proofs.CoverLaws.{Hit, puts-covered}
 use Rattle.correction.proofs.PlanLaws.{lineOf, decide, answer-view, putOf, writesTo, all-writes, planBy, plan, corrected-view}
+use Rattle.correction.proofs.ColumnLaws.{roles}
 use Rattle.correction.proofs.KeepsLaws.{planOf, keeps, part-kept}
 use Rattle.correction.proofs.PartLaws.{all-cells, parts-apart}
 
@@ -26,7 +27,7 @@ abbrev pub Differ : Order → Order → Type 0
 Differ o q = (o .row ≡ q .row) × (o .column ≡ q .column) → ⊥
 
 pub plans-apart : (f : List ℕ) (o q : Order) → Differ o q → AllApart (planOf f o) (planOf f q)
-plans-apart f o q df = parts-apart entriesOf entriesOf f o q 0 2 0 2 (λ t m. all-cells t o m) (λ t m. all-cells t q m) (λ r c. absurd (df (r, c)))
+plans-apart f o q df = parts-apart entriesOf entriesOf f o q 0 roles 0 roles (λ t m. all-cells t o m) (λ t m. all-cells t q m) (λ r c. absurd (df (r, c)))
 
 -- ---- each cell that an earlier correction of the measurement set is set again
 abbrev Met : Entry → List Entry → Type 0

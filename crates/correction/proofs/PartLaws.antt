@@ -19,7 +19,7 @@ use Rattle.correction.proofs.GeometryLaws.{Shape, shape}
 use Rattle.correction.proofs.PutLaws.{Put, Apart, AllApart, Distinct}
 use Rattle.correction.proofs.PlanLaws.{lineOf, decideIn, putOf, writesTo, writes, ifApplied, Part, planBy}
 use Rattle.correction.proofs.UniqueLaws.{accepted-unique}
-use Rattle.correction.proofs.ColumnLaws.{flag-of, Measured, CellOf, cell-once}
+use Rattle.correction.proofs.ColumnLaws.{flag-of, Measured, roles, CellOf, cell-once}
 use Rattle.correction.proofs.FitLaws.{Asked, applied-asked}
 use Rattle.correction.proofs.KeepsLaws.{partOf}
 
@@ -56,7 +56,7 @@ module _ (t : Table) (o : Order) (m : Measured t (o .column)) where
     all-ranges t (o .column) 1 2 0 2 (flagEntries t o) (omega arith) (omega arith) flag-cells,
   )
 
-  pub all-cells : All (Cell t (o .column) 0 2) (entriesOf t o)
+  pub all-cells : All (Cell t (o .column) 0 roles) (entriesOf t o)
   all-cells = part-cells
 
 -- ---- entries of other cells are put apart

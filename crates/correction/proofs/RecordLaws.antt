@@ -33,7 +33,7 @@ use Rattle.correction.specs.Demand3.{Kept}
 use Rattle.correction.proofs.GeometryLaws.{Grid, Shape, shape, cellIn, cell-row}
 use Rattle.correction.proofs.PutLaws.{Put, Misses, cell-puts-other, map-puts}
 use Rattle.correction.proofs.PlanLaws.{lineOf, decideIn, all-writes, writes, ifApplied, planBy, plan}
-use Rattle.correction.proofs.ColumnLaws.{getD-map-in, cell-low}
+use Rattle.correction.proofs.ColumnLaws.{getD-map-in, roles, cell-low}
 use Rattle.correction.proofs.FitLaws.{applied-asked}
 use Rattle.correction.proofs.KeepsLaws.{planOf, keeps, length-kept}
 use Rattle.correction.proofs.PartLaws.{Cell, all-cells}
@@ -50,7 +50,7 @@ plan-low t n sh o = go (decideIn t n sh o) refl
     go (Refused i j k) e = tt
     go Applied e =
         let m = applied-asked t n sh o e .measured in
-        all-writes (Cell t (o .column) 0 2) (Low (kindsOf (t .names))) sh (lineOf t o) (entriesOf t o) (λ x w. cell-low t (o .column) m (w .role) (x .column) (w .of)) (all-cells t o m)
+        all-writes (Cell t (o .column) 0 roles) (Low (kindsOf (t .names))) sh (lineOf t o) (entriesOf t o) (λ x w. cell-low t (o .column) m (w .role) (x .column) (w .of)) (all-cells t o m)
 
 low-misses : (ks : List ℕ) (ws : List Put) (l c : ℕ) → 6 ≤ getD ks c 0 → All (Low ks) ws → Misses ws l c
 low-misses ks [] l c h a = tt
