@@ -60,13 +60,12 @@ fn broken_rule(at: Located, order: Order) -> u64
         return refusals::FLAG_NOT_IN_SET;
     }
     let value = at.value;
-    if value.len
-        < text_length(
-            order.millionths < 0,
-            size_of(order.millionths),
-            order.decimals,
-        )
-    {
+    let length = text_length(
+        order.millionths < 0,
+        size_of(order.millionths),
+        order.decimals,
+    );
+    if value.len < length {
         return refusals::TEXT_TOO_LONG;
     }
     0
