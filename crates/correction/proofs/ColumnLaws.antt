@@ -1,5 +1,5 @@
 -- The columns of a measurement's cells: a flag column stands in the line, its kind is the one that its parameter's name says, and it is the flag column of
--- one column only. So the cells of different measurements are different, and none is a cell that a profile's key or record is read from.
+-- one column only. So a cell belongs to one measurement and is one of its cells (cell-once), and none is a cell that a profile's key or record is read from.
 use Prim.Native.Nat.{ℕ, zero, suc, _+_, _-_, _≤_, _<_}
 use mathlib.Core.Path.{_≡_, refl, sym, ap, _∙_, subst}
 use mathlib.Core.Bool.{Bool, true, false, cond, _&&_, and-eq-true-iff}
@@ -14,9 +14,7 @@ use Rattle.exchange.specs.Columns.{isFlag, parameterOf, Column, columnOf, colum
 use Rattle.exchange.specs.Places.{Table}
 use Rattle.exchange.specs.Answers.{kindAt}
 use Rattle.exchange.specs.Located.{nameAt, flagColumn, hasFlag}
-use Rattle.laws.proofs.JoinLaws.{All}
 use Rattle.correction.proofs.UniqueLaws.{Unique}
-use Rattle.correction.proofs.PlanLaws.{cellColumns}
 
 pub getD-map-in : {A B : Type 0} (f : A → B) (l : List A) (i : ℕ) (d : B) (e : A) → i < length l → getD (map f l) i d ≡ f (getD l i e)
 getD-map-in f [] i d e h = absurd (omega arith)
@@ -88,50 +86,34 @@ measured-no-flag t c d j m f e = flag-kind (beginsCtd (nameAt t d)) .0 (sym (f .
 flags-apart : (t : Table) (c d j k : ℕ) → Unique (t .names) → c - 1 < length (t .names) → d - 1 < length (t .names) → FlagOf t c j → FlagOf t d k → j - 1 ≡ k - 1 → c - 1 ≡ d - 1
 flags-apart t c d j k u h l f g e = u (c - 1) (d - 1) h l (sym (f .of) ∙ ap (λ (i : ℕ). parameterOf (getD (t .names) i [])) e ∙ g .of)
 
--- ---- a measured column of the line, and its cells' columns
+-- ---- a measured column of the line
 pub record Measured (t : Table) (c : ℕ) : Type 0 where
   pub in-line : c - 1 < length (t .names)
   pub kind : kindAt t c ≡ 0
 
--- the columns of a list are none of another's
-abbrev pub Others : List ℕ → List ℕ → Type 0
-Others cs ds = All (λ (i : ℕ). All (λ (j : ℕ). i ≡ j → ⊥) ds) cs
+-- the cells of a measurement by their roles: 0 its value, 1 its flag; there are so many
+abbrev pub roles : ℕ
+roles = 2
 
-module _ (t : Table) (u : Unique (t .names)) where
-  -- of two measurements in different columns
-  pub columns-apart : (c d : ℕ) → Measured t c → Measured t d → (c - 1 ≡ d - 1 → ⊥) → Others (cellColumns t c) (cellColumns t d)
-  unfolding cellColumns
-  columns-apart c d m n df = go (hasFlag t c) refl (hasFlag t d) refl
-    where
-      go : (a : Bool) → hasFlag t c ≡ a → (b : Bool) → hasFlag t d ≡ b
-          → Others ((c - 1) ∷ cond a ((flagColumn t c - 1) ∷ []) []) ((d - 1) ∷ cond b ((flagColumn t d - 1) ∷ []) [])
-      go false p false q = ((df, tt), tt)
-      go false p true q = ((df, (measured-no-flag t c d (flagColumn t d) (m .kind) (flag-of t d (n .in-line) q), tt)), tt)
-      go true p false q = ((df, tt), (((λ e. measured-no-flag t d c (flagColumn t c) (n .kind) (flag-of t c (m .in-line) p) (sym e)), tt), tt))
-      go true p true q =
-          let f = flag-of t c (m .in-line) p in
-          let g = flag-of t d (n .in-line) q in (
-            (df, (measured-no-flag t c d (flagColumn t d) (m .kind) g, tt)),
-            (
-              (
-                (λ e. measured-no-flag t d c (flagColumn t c) (n .kind) f (sym e)),
-                ((λ e. df (flags-apart t c d (flagColumn t c) (flagColumn t d) u (m .in-line) (n .in-line) f g e)), tt),
-              ),
-              tt,
-            ),
-          )
+-- j is the column of the cell of that role
+abbrev pub CellOf : Table → ℕ → ℕ → ℕ → Type 0
+CellOf t c zero j = c - 1 ≡ j - 1
+CellOf t c (suc zero) j = FlagOf t c j
+CellOf t c (suc (suc k)) j = ⊥
 
--- the value column is not the flag column
-pub columns-distinct : (t : Table) (c : ℕ) → Measured t c → hasFlag t c ≡ true → c - 1 ≡ flagColumn t c - 1 → ⊥
-columns-distinct t c m h = measured-no-flag t c c (flagColumn t c) (m .kind) (flag-of t c (m .in-line) h)
+module _ (t : Table) (u : Unique (t .names)) (c d : ℕ) (m : Measured t c) (n : Measured t d) where
+  -- a cell belongs to one measurement, and is one of its cells
+  pub cell-once : (k l i j : ℕ) → CellOf t c k i → CellOf t d l j → i - 1 ≡ j - 1 → (c - 1 ≡ d - 1) × (k ≡ l)
+  cell-once zero zero i j x y e = (x ∙ e ∙ sym y, refl)
+  cell-once zero (suc zero) i j x y e = absurd (measured-no-flag t c d j (m .kind) y (x ∙ e))
+  cell-once (suc zero) zero i j x y e = absurd (measured-no-flag t d c i (n .kind) x (y ∙ sym e))
+  cell-once (suc zero) (suc zero) i j x y e = (flags-apart t c d i j u (m .in-line) (n .in-line) x y e, refl)
+  cell-once (suc (suc k)) l i j x y e = absurd x
+  cell-once zero (suc (suc l)) i j x y e = absurd y
+  cell-once (suc zero) (suc (suc l)) i j x y e = absurd y
 
--- their kinds are those of a measured or a flag column, below those of the station names
-pub columns-kinds : (t : Table) (c : ℕ) → Measured t c → All (λ (i : ℕ). getD (kindsOf (t .names)) i 0 < 6) (cellColumns t c)
-unfolding cellColumns
-columns-kinds t c m = go (hasFlag t c) refl
-  where
-    go : (a : Bool) → hasFlag t c ≡ a → All (λ (i : ℕ). getD (kindsOf (t .names)) i 0 < 6) ((c - 1) ∷ cond a ((flagColumn t c - 1) ∷ []) [])
-    go true p =
-        let k : kindAt t (flagColumn t c) ≡ cond (beginsCtd (nameAt t c)) 5 4 = flag-of t c (m .in-line) p .kind in
-        (omega (arith, m .kind), (omega (arith, k, flag-kind (beginsCtd (nameAt t c)) .1), tt))
-    go false p = (omega (arith, m .kind), tt)
+-- its kind is that of a measured or a flag column, below those of the station names
+pub cell-low : (t : Table) (c : ℕ) → Measured t c → (k j : ℕ) → CellOf t c k j → kindAt t j < 6
+cell-low t c m zero j x = let q : kindAt t j ≡ kindAt t c = ap (λ (i : ℕ). getD (kindsOf (t .names)) i 0) (sym x) in omega (arith, m .kind, q)
+cell-low t c m (suc zero) j x = omega (arith, x .kind, flag-kind (beginsCtd (nameAt t c)) .1)
+cell-low t c m (suc (suc k)) j x = absurd x

@@ -1,62 +1,36 @@
 -- One correction: the answer and the bytes left, from what the reading part says of the measurement's cells.
 use Prim.Native.Nat.{ℕ, _+_, _-_, _≤_}
 use mathlib.Core.Path.{_≡_, refl, sym, ap, subst, _∙_}
-use mathlib.Core.List.{List, [], _∷_}
-use mathlib.Core.Bool.{Bool, true, false, cond, not, _&&_}
+use mathlib.Core.List.{List, [], _∷_, map}
+use mathlib.Core.Bool.{Bool, true, false, cond, not, _||_}
 use native.Mathlib.Omega.{arith}
-use lib.ListN.{length, replicate, length-append, length-take, length-drop, length-map}
-use lib.Dec.{eqb, leb, ltb}
-use lib.IntN.{ℤ, pos}
-use lib.Signed.{ltZ}
-use mir.Syntax.{w64}
-use mir.Val.{toZ, ofZ, SFits}
-use mir.ValLaws.{toZ-ofZ}
-use borrow.Author.Tests.{leb-true, ne-eqb}
+use lib.ListN.{length, drop, replicate, length-append, length-take, length-drop, length-map}
+use lib.Dec.{ltb}
+use borrow.Author.Tests.{ne-eqb}
 use Rattle.text.specs.declared.Span.{Span}
 use Rattle.text.specs.Names.{beginsCtd}
-use Rattle.text.proofs.CellLaws.{both-true}
 use Rattle.exchange.specs.declared.Located.{Located}
 use Rattle.exchange.specs.Columns.{kindOfName}
 use Rattle.exchange.specs.Places.{Table, Outcome, accepted, refused, outcomeOf}
 use Rattle.exchange.specs.Profiles.{grid}
 use Rattle.exchange.specs.Answers.{found, missed, askedBy, askedOf, cellPlace}
-use Rattle.exchange.specs.Located.{nameAt, isMeasured, flagColumn, hasFlag, flagPlace, measurementCells, locatedBy, locatedOf, cellsBy, cellsOf}
+use Rattle.exchange.specs.Located.{nameAt, flagColumn, hasFlag, nowhere, flagPlace, locatedBy, locatedOf}
 use Rattle.laws.proofs.AskedLaws.{row-many}
 use Rattle.laws.proofs.FirstBrokenLaws.{checks-first}
-use Rattle.correction.specs.declared.Answer.{Answer}
 use Rattle.correction.specs.declared.Answer.the-variants.{Applied, Refused}
 use Rattle.correction.specs.declared.deciding.Decision.{Decision}
-use Rattle.correction.specs.Texts.{size, isBelow, numberText, flagText, atRight}
-use Rattle.correction.specs.Corrections.{Order, orderOf, isThere, badNumber, badFlag, tooLong, Test, test, firstThat, textAt, ownTexts, answerBy, answerOf, textsOf, filled, correctedOf}
-use Rattle.correction.specs.WriteWords.{InCell, Writes}
-use Rattle.correction.specs.DecideWords.{brokenBy, Decides}
-use Rattle.correction.proofs.SizeLaws.{below-is}
+use Rattle.correction.specs.declared.writing.CellPlaces.{CellPlaces}
+use Rattle.correction.specs.Texts.{numberText, flagText, atRight}
+use Rattle.correction.specs.declared.Order.{Order}
+use Rattle.correction.specs.Corrections.{entry, isThere, noSuchCell, badFlag, anyLonger, textTooLong, test, testsOf, textAt, ownText, answerBy, answerOf, Fill, fill, fillAt, fillsBy, fillsOf, filled, correctedOf}
+use Rattle.correction.specs.Inner.Writing.{InCell, Writes, fillsAt}
+use Rattle.correction.specs.Inner.Deciding.{firstNumber, testsAt, Decides}
 use Rattle.correction.proofs.TextLaws.{number-some, flag-in}
 use Rattle.correction.proofs.GeometryLaws.{shape, begin, widthAt, width-cell, Inside, inside-of}
-use Rattle.correction.proofs.PlanLaws.{span-inside, place-shape, text-place, cellColumns, lineOf, too-long, answer-view, decide, tests-kept, writesTo, writes}
-use Rattle.correction.proofs.FitLaws.{Asked, asked, goods}
+use Rattle.correction.proofs.TestLaws.{first-here, first-later, byNumber, first-number}
+use Rattle.correction.proofs.PlanLaws.{span-inside, place-shape, text-place, lineOf, answer-view, decide}
+use Rattle.correction.proofs.FitLaws.{Asked, There, there, applied-asked, goods}
 use Rattle.correction.proofs.ColumnLaws.{flag-of}
-
--- ---- the tests in their order
-tests-21 : (b : Bool) (ts : List Test) → b ≡ false → firstThat (test 21 (not b) ∷ ts) ≡ Refused 21 0 0
-unfolding firstThat
-tests-21 b ts e = rw e
-
-tests-later : (b : Bool) (ts : List Test) → b ≡ true → firstThat (test 21 (not b) ∷ ts) ≡ firstThat ts
-unfolding firstThat
-tests-later b ts e = rw e
-
--- the answer by a refusal's number, 0 for none
-abbrev byNumber : ℕ → Answer
-byNumber k = cond (eqb k 0) Applied (Refused k 0 0)
-
-tests-number : (a b c d : Bool) → firstThat (test 22 a ∷ test 23 b ∷ test 24 c ∷ test 25 d ∷ []) ≡ byNumber (cond a 22 (cond b 23 (cond c 24 (cond d 25 0))))
-unfolding firstThat
-tests-number true b c d = refl
-tests-number false true c d = refl
-tests-number false false true d = refl
-tests-number false false false true = refl
-tests-number false false false false = refl
 
 -- ---- the file's refusal or 21; or the row and column are there
 pub record Here (f : List ℕ) (o : Order) (x : Located) : Type 0 where
@@ -76,7 +50,7 @@ module _ (f : List ℕ) (o : Order) (x : Located) (e : x ≡ locatedOf f (o .row
     where
       by : (t : Table) (n : ℕ) (b : Bool) → isThere t n o ≡ b → x ≡ locatedBy f (o .row) (o .column) (cond b (found t) (missed 21 0 0)) → answerBy f o (accepted t n) ≡ Refused (x .number) (x .line) (x .column)
       by t n true h q = absurd (z (ap (λ (y : Located). y .number) q))
-      by t n false h q = tests-21 (isThere t n o) _ h ∙ sym (ap (λ (y : Located). Refused (y .number) (y .line) (y .column)) q)
+      by t n false h q = first-here (test 21 (noSuchCell t n o)) (drop 1 (testsOf t n (ownText t f o) o)) (ap not h) ∙ sym (ap (λ (y : Located). Refused (y .number) (y .line) (y .column)) q)
 
       go : (p : Outcome) → Is p → answerBy f o p ≡ Refused (x .number) (x .line) (x .column)
       go (refused a b c) q = sym (ap (λ (y : Located). Refused (y .number) (y .line) (y .column)) q)
@@ -133,44 +107,55 @@ module _ (f : List ℕ) (o : Order) (x : Located) (h : Here f o x) where
   abbrev column : ℕ
   column = o .column
 
-  there : (1 ≤ o .row) × (o .row ≤ h .rows) × (1 ≤ o .column) × (o .column ≤ length (h .table .names))
-  there =
-      let a = both-true (leb 1 (o .row) && leb (o .row) (h .rows)) (leb 1 (o .column) && leb (o .column) (length (h .table .names))) (h .there) in
-      let r = both-true (leb 1 (o .row)) (leb (o .row) (h .rows)) (a .0) in
-      let c = both-true (leb 1 (o .column)) (leb (o .column) (length (h .table .names))) (a .1) in
-      (leb-true _ _ (r .0), leb-true _ _ (r .1), leb-true _ _ (c .0), leb-true _ _ (c .1))
+  in-table : There t (h .rows) o
+  in-table = there t (h .rows) o (h .there)
 
-  too-wide : tooLong (ownTexts t f o) o ≡ ltb (cellPlace t f (o .row) column .len) (length (numberText (o .millionths) (o .decimals)))
+  -- 25, by the place of the value's cell
+  too-wide : textTooLong t (ownText t f o) o ≡ ltb (cellPlace t f (o .row) column .len) (length (numberText (o .millionths) (o .decimals)))
+  unfolding anyLonger
   too-wide =
-      too-long t f o
+      or-false (ltb (length (ownText t f o column)) (length (numberText (o .millionths) (o .decimals))))
       ∙ ap (λ (k : ℕ). ltb k (length (numberText (o .millionths) (o .decimals))))
-      (sym (place-width f t (h .rows) (o .row) column (h .accepts) (there .0) (there .1) (there .2) (there .3)))
+      (place-long f t (h .rows) (o .row) column (h .accepts) (in-table .row) (in-table .rows) (in-table .col) (in-table .cols))
+    where
+      or-false : (b : Bool) → (b || false) ≡ b
+      or-false true = refl
+      or-false false = refl
 
-  number-broken : cond (not (isMeasured t column)) 22 (cond (badNumber o) 23 (cond (badFlag t o) 24 (cond (tooLong (ownTexts t f o) o) 25 0)))
-      ≡ brokenBy x (isBelow (o .millionths)) (size (o .millionths)) (o .decimals) (o .flag)
-  unfolding brokenBy badNumber badFlag numberText
-  number-broken =
-      ap (λ (z : Bool). cond (not (isMeasured t column)) 22 (cond (badNumber o) 23 (cond (badFlag t o) 24 (cond z 25 0)))) too-wide
-      ∙ sym (ap (λ (y : Located). brokenBy y (isBelow (o .millionths)) (size (o .millionths)) (o .decimals) (o .flag)) (h .is))
+  tests-here : firstNumber (drop 1 (testsOf t (h .rows) (ownText t f o) o)) ≡ firstNumber (testsAt x o)
+  unfolding badFlag
+  tests-here = rw too-wide (sym (ap (λ (y : Located). firstNumber (testsAt y o)) (h .is)))
 
-  answer-here : answerOf f o ≡ byNumber (brokenBy x (isBelow (o .millionths)) (size (o .millionths)) (o .decimals) (o .flag))
+  answer-here : answerOf f o ≡ byNumber (firstNumber (testsAt x o))
   unfolding answerOf
   answer-here =
-      ap (answerBy f o) (h .accepts) ∙ tests-later (isThere t (h .rows) o) _ (h .there)
-      ∙ tests-number (not (isMeasured t column)) (badNumber o) (badFlag t o) (tooLong (ownTexts t f o) o) ∙ ap byNumber number-broken
+      let later = drop 1 (testsOf t (h .rows) (ownText t f o) o) in
+      ap (answerBy f o) (h .accepts)
+      ∙ first-later (test 21 (noSuchCell t (h .rows) o)) later (ap not (h .there))
+      ∙ first-number later refl
+      ∙ ap byNumber tests-here
 
-  cells-here : cellsOf f (o .row) column ≡ x .value ∷ cond (x .flagged) (x .flag ∷ []) []
-  unfolding measurementCells
-  cells-here = ap (cellsBy f (o .row) column) (h .accepts) ∙ sym (ap (λ (y : Located). y .value ∷ cond (y .flagged) (y .flag ∷ []) []) (h .is))
+  abbrev places : CellPlaces
+  places = record { value = x .value; flagged = x .flagged; flag = x .flag }
+
+  fills-here : fillsOf f o ≡ fillsAt places o
+  fills-here =
+      ap (fillsBy f o) (h .accepts)
+      ∙ ap (λ (xs : List Fill). fill (cellPlace t f (o .row) column) (numberText (o .millionths) (o .decimals)) ∷ xs) (flags (hasFlag t column))
+      ∙ sym (ap (λ (y : Located). fillsAt (record { value = y .value; flagged = y .flagged; flag = y .flag }) o) (h .is))
+    where
+      flags : (b : Bool) → map (fillAt t f (o .row)) (cond b (entry (flagColumn t column) (flagText (o .flag)) ∷ []) [])
+          ≡ cond b (fill (cond b (cellPlace t f (o .row) (flagColumn t column)) nowhere) (flagText (o .flag)) ∷ []) []
+      flags true = refl
+      flags false = refl
 
   module _ (applied : answerOf f o ≡ Applied) where
     asks : Asked t (h .rows) (shape (grid f)) o
     asks =
-        asked t (h .rows) (shape (grid f)) o (tests-kept t (h .rows) (shape (grid f)) o
-        (sym (ap (λ (p : Outcome). decide p (shape (grid f)) o) (h .accepts)) ∙ sym (answer-view f o) ∙ applied))
+        applied-asked t (h .rows) (shape (grid f)) o
+        (sym (ap (λ (p : Outcome). decide p (shape (grid f)) o) (h .accepts)) ∙ sym (answer-view f o) ∙ applied)
 
     flag-width : hasFlag t column ≡ true → 1 ≤ widthAt (shape (grid f)) (lineOf t o) (flagColumn t column - 1)
-    unfolding cellColumns writesTo
     flag-width b =
         let w = widthAt (shape (grid f)) (lineOf t o) (flagColumn t column - 1) in
         let g = rw b at (goods f t (h .rows) o (h .accepts) asks) in
@@ -180,43 +165,45 @@ module _ (f : List ℕ) (o : Order) (x : Located) (h : Here f o x) where
     flag-cell b =
         let w = flag-of t column (asks .measured .in-line) b in (
           flag-in (beginsCtd (nameAt t column)) (o .flag) (asks .flag b) .1,
-          rw b (place-cell f t (h .rows) (o .row) (flagColumn t column) (h .accepts) (there .0) (there .1) (w .some) (w .most) (flagText (o .flag)) (omega arith) (flag-width b)),
+          rw b (place-cell f t (h .rows) (o .row) (flagColumn t column) (h .accepts) (in-table .row) (in-table .rows) (w .some) (w .most) (flagText (o .flag)) (omega arith) (flag-width b)),
         )
 
-    writes-table : Writes f (cellPlace t f (o .row) column) (hasFlag t column) (flagPlace t f (o .row) column) (o .millionths) (o .decimals) (o .flag)
+    writes-table : Writes f (record { value = cellPlace t f (o .row) column; flagged = hasFlag t column; flag = flagPlace t f (o .row) column }) o
     writes-table = record {
-      few = asks .number .few;
-      number = place-cell f t (h .rows) (o .row) column (h .accepts) (there .0) (there .1) (there .2) (there .3) _ (number-some (o .millionths) (o .decimals)) (asks .fits);
+      few = asks .value .number .few;
+      number =
+          place-cell f t (h .rows) (o .row) column (h .accepts) (in-table .row) (in-table .rows) (in-table .col) (in-table .cols) _
+          (number-some (o .millionths) (o .decimals)) (asks .value .fits);
       digit = flag-cell;
     }
 
-    writes-here : Writes f (x .value) (x .flagged) (x .flag) (o .millionths) (o .decimals) (o .flag)
-    writes-here = subst (λ (y : Located). Writes f (y .value) (y .flagged) (y .flag) (o .millionths) (o .decimals) (o .flag)) (sym (h .is)) writes-table
+    writes-here : Writes f places o
+    writes-here = subst (λ (y : Located). Writes f (record { value = y .value; flagged = y .flagged; flag = y .flag }) o) (sym (h .is)) writes-table
 
 -- ---- the bytes left
 corrected-kept : (f : List ℕ) (o : Order) (a b c : ℕ) → answerOf f o ≡ Refused a b c → f ≡ correctedOf f o
 unfolding correctedOf
 corrected-kept f o a b c e = rw e
 
-corrected-filled : (f : List ℕ) (o : Order) → answerOf f o ≡ Applied → filled (cellsOf f (o .row) (o .column)) (textsOf o) f ≡ correctedOf f o
+corrected-filled : (f : List ℕ) (o : Order) → answerOf f o ≡ Applied → filled (fillsOf f o) f ≡ correctedOf f o
 unfolding correctedOf
 corrected-filled f o e = rw e
 
--- ---- the returns of decide: the refusal of locate, or the number k found by the code from its own sign and size n
+-- ---- the returns of decide: the refusal of locate, or the number k of the first test that holds
 abbrev decisionOf : Located → ℕ → ℕ → ℕ → Decision
-decisionOf x number line column = record { number = number; line = line; column = column; value = x .value; flagged = x .flagged; flag = x .flag }
+decisionOf x number line column = record {
+  number = number;
+  line = line;
+  column = column;
+  places = record { value = x .value; flagged = x .flagged; flag = x .flag };
+}
 
 pub decides-refused : {f : List ℕ} {o : Order} {x : Located} → x ≡ locatedOf f (o .row) (o .column) → (x .number ≡ 0 → ⊥) → Decides f o (decisionOf x (x .number) (x .line) (x .column))
 decides-refused {f} {o} {x} e z = record { refused = answer-refused f o x e; applied = λ k. absurd (z k) }
 
-module _ {f : List ℕ} {o : Order} {x : Located} (h : Here f o x) (s : SFits w64 (o .millionths)) {n k : ℕ} (e : n ≡ size (toZ w64 (ofZ w64 (o .millionths))))
-    (b : k ≡ brokenBy x (ltZ (toZ w64 (ofZ w64 (o .millionths))) (pos 0)) n (o .decimals) (o .flag)) where
+module _ {f : List ℕ} {o : Order} {x : Located} (h : Here f o x) {k : ℕ} (b : k ≡ firstNumber (testsAt x o)) where
   by-code : answerOf f o ≡ byNumber k
-  by-code =
-      let q : size (o .millionths) ≡ n = ap size (sym (toZ-ofZ w64 (o .millionths) s)) ∙ sym e in
-      answer-here f o x h
-      ∙ ap byNumber (ap (λ (z : Bool). brokenBy x z (size (o .millionths)) (o .decimals) (o .flag)) (sym (below-is (o .millionths) s))
-      ∙ ap (λ (j : ℕ). brokenBy x (ltZ (toZ w64 (ofZ w64 (o .millionths))) (pos 0)) j (o .decimals) (o .flag)) q ∙ sym b)
+  by-code = answer-here f o x h ∙ ap byNumber (sym b)
 
   answer-broken : (k ≡ 0 → ⊥) → answerOf f o ≡ Refused k 0 0
   answer-broken z = by-code ∙ rw (ne-eqb k 0 z)
@@ -232,21 +219,14 @@ module _ {f : List ℕ} {o : Order} {x : Located} (h : Here f o x) (s : SFits w6
       line = refl;
       column = refl;
       writes = writes-here f o x h (answer-applied z);
-      fills = ap (λ (ps : List Span). filled ps (textsOf o) f) (sym (cells-here f o x h)) ∙ corrected-filled f o (answer-applied z);
+      fills = sym (ap (λ (xs : List Fill). filled xs f) (fills-here f o x h)) ∙ corrected-filled f o (answer-applied z);
     };
   }
 
--- ---- the returns of correct, by what decide says of the order as the code has it
-abbrev coded : Order → Order
-coded o = orderOf (o .row) (o .column) (toZ w64 (ofZ w64 (o .millionths))) (o .decimals) (o .flag)
-
-module _ {f : List ℕ} (o : Order) {d : Decision} (s : SFits w64 (o .millionths)) (h : Decides f (coded o) d) where
-  coded-same : coded o ≡ o
-  coded-same = ap (λ (m : ℤ). orderOf (o .row) (o .column) m (o .decimals) (o .flag)) (toZ-ofZ w64 (o .millionths) s)
-
+-- ---- the returns of correct
+module _ {f : List ℕ} {o : Order} {d : Decision} (h : Decides f o d) where
   pub correct-refused : (d .number ≡ 0 → ⊥) → (Refused (d .number) (d .line) (d .column) ≡ answerOf f o) × (f ≡ correctedOf f o)
-  correct-refused z = let e = sym (ap (answerOf f) coded-same) ∙ h .refused z in (sym e, corrected-kept f o _ _ _ e)
+  correct-refused z = let e = h .refused z in (sym e, corrected-kept f o _ _ _ e)
 
-  pub correct-applied : {g : List ℕ} → d .number ≡ 0 → g ≡ filled (d .value ∷ cond (d .flagged) (d .flag ∷ []) []) (textsOf (coded o)) f
-      → (Applied ≡ answerOf f o) × (g ≡ correctedOf f o)
-  correct-applied z q = let a = h .applied z in (sym (a .answer) ∙ ap (answerOf f) coded-same, q ∙ a .fills ∙ ap (correctedOf f) coded-same)
+  pub correct-applied : {g : List ℕ} → d .number ≡ 0 → g ≡ filled (fillsAt (d .places) o) f → (Applied ≡ answerOf f o) × (g ≡ correctedOf f o)
+  correct-applied z q = let a = h .applied z in (sym (a .answer), q ∙ a .fills)

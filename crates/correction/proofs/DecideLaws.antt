@@ -1,28 +1,54 @@
 -- The rules of a correction at each return of the functions that decide it.
 use Prim.Native.Nat.{ℕ, _-_, _%_, _^_, _≤_, _<_}
-use mathlib.Core.Path.{_≡_, refl, sym, _∙_}
+use mathlib.Core.Path.{_≡_, refl, sym, ap, _∙_}
 use mathlib.Core.Bool.{Bool, true, false, not, _||_}
 use lib.ListN.{length}
 use lib.Dec.{eqb, ltb}
+use lib.IntN.{pos}
+use lib.Signed.{ltZ}
+use mir.Syntax.{w64}
+use mir.Val.{toZ, ofZ, SFits}
+use mir.ValLaws.{toZ-ofZ}
 use borrow.Author.Tests.{lt-ltb, le-ltb, ltb-false}
-use Rattle.exchange.specs.declared.Located.{Located}
-use Rattle.correction.specs.Corrections.{inSet}
-use Rattle.correction.specs.WriteWords.{textOf}
-use Rattle.correction.specs.DecideWords.{wrongNumber, wrongFlag, brokenBy}
+use Rattle.correction.specs.Texts.{size, numberText}
+use Rattle.correction.specs.declared.Order.{Order}
+use Rattle.correction.specs.Corrections.{badNumber, inSet, wrongFlag}
+use Rattle.correction.specs.Inner.Writing.{textOf}
+use Rattle.correction.proofs.WriteLaws.{number-as}
 
--- ---- 23
-module _ (n d : ℕ) where
-  pub number-fine : 6 < d → true ≡ wrongNumber n d
-  number-fine h = rw (lt-ltb 6 d h)
+-- ---- 23, with the number's size n as the code has it
+module _ (o : Order) where
+  pub number-fine : 6 < o .decimals → true ≡ badNumber o
+  unfolding badNumber
+  number-fine h = rw (lt-ltb 6 (o .decimals) h)
 
-  pub number-large : d ≤ 6 → 10 ^ 15 ≤ n → true ≡ wrongNumber n d
-  number-large h k = rw (le-ltb 6 d h, le-ltb n (10 ^ 15) k)
+  module _ (s : SFits w64 (o .millionths)) (n : ℕ) (e : n ≡ size (toZ w64 (ofZ w64 (o .millionths)))) where
+    size-is : n ≡ size (o .millionths)
+    size-is = e ∙ ap size (toZ-ofZ w64 (o .millionths) s)
 
-  pub number-exact : d ≤ 6 → n < 10 ^ 15 → (q : ℕ) → q ≡ 10 ^ (6 - d) → not (eqb (n % q) 0) ≡ wrongNumber n d
-  number-exact h k q e = rw (le-ltb 6 d h, lt-ltb n (10 ^ 15) k, e)
+    pub number-large : o .decimals ≤ 6 → 10 ^ 15 ≤ n → true ≡ badNumber o
+    unfolding badNumber
+    number-large h k = rw (le-ltb 6 (o .decimals) h, ← size-is, le-ltb n (10 ^ 15) k)
 
-  pub number-few : (b : Bool) → b ≡ wrongNumber n d → b ≡ false → d ≤ 6
-  number-few b e z = ltb-false 6 d (first (ltb 6 d) (not (ltb n (10 ^ 15)) || not (eqb (n % 10 ^ (6 - d)) 0)) (sym e ∙ z))
+    pub number-exact : o .decimals ≤ 6 → n < 10 ^ 15 → (q : ℕ) → q ≡ 10 ^ (6 - o .decimals) → not (eqb (n % q) 0) ≡ badNumber o
+    unfolding badNumber
+    number-exact h k q p = rw (le-ltb 6 (o .decimals) h, ← size-is, lt-ltb n (10 ^ 15) k, p)
+
+    -- 25, with the length l of the number's text
+    module _ (w l : ℕ) (k : l ≡ length (textOf (ltZ (toZ w64 (ofZ w64 (o .millionths))) (pos 0)) n (o .decimals))) where
+      long-is : l ≡ length (numberText (o .millionths) (o .decimals))
+      long-is = k ∙ ap length (number-as (o .millionths) (o .decimals) n s e)
+
+      pub text-longer : w < l → ltb w (length (numberText (o .millionths) (o .decimals))) ≡ true
+      text-longer h = rw (← long-is) (lt-ltb w l h)
+
+      pub text-fits : l ≤ w → ltb w (length (numberText (o .millionths) (o .decimals))) ≡ false
+      text-fits h = rw (← long-is) (le-ltb w l h)
+
+  pub number-few : (b : Bool) → b ≡ badNumber o → b ≡ false → o .decimals ≤ 6
+  unfolding badNumber
+  number-few b e z =
+      ltb-false 6 (o .decimals) (first (ltb 6 (o .decimals)) (not (ltb (size (o .millionths)) (10 ^ 15)) || not (eqb (size (o .millionths) % 10 ^ (6 - o .decimals)) 0)) (sym e ∙ z))
     where
       first : (a b : Bool) → (a || b) ≡ false → a ≡ false
       first true b e = e
@@ -34,28 +60,3 @@ flag-some b ctd v e = rw e
 
 pub flag-none : (b ctd : Bool) (v : ℕ) → b ≡ false → not (eqb v 0) ≡ wrongFlag b ctd v
 flag-none b ctd v e = rw e
-
--- ---- 22 to 25 in their order
-module _ (x : Located) (minus : Bool) (n d v : ℕ) where
-  pub broken-22 : x .measured ≡ false → 22 ≡ brokenBy x minus n d v
-  unfolding brokenBy
-  broken-22 e = rw e
-
-  module _ (measured : x .measured ≡ true) (b : Bool) (e : b ≡ wrongNumber n d) where
-    pub broken-23 : b ≡ true → 23 ≡ brokenBy x minus n d v
-    unfolding brokenBy
-    broken-23 z = rw (measured, ← e, z)
-
-    module _ (number : b ≡ false) (c : Bool) (g : c ≡ wrongFlag (x .flagged) (x .ctd) v) where
-      pub broken-24 : c ≡ true → 24 ≡ brokenBy x minus n d v
-      unfolding brokenBy
-      broken-24 z = rw (measured, ← e, number, ← g, z)
-
-      module _ (flag : c ≡ false) (l : ℕ) (k : l ≡ length (textOf minus n d)) where
-        pub broken-25 : x .value .len < l → 25 ≡ brokenBy x minus n d v
-        unfolding brokenBy
-        broken-25 h = rw (measured, ← e, number, ← g, flag, ← k, lt-ltb (x .value .len) l h)
-
-        pub broken-none : l ≤ x .value .len → 0 ≡ brokenBy x minus n d v
-        unfolding brokenBy
-        broken-none h = rw (measured, ← e, number, ← g, flag, ← k, le-ltb (x .value .len) l h)

@@ -4,7 +4,8 @@ use mathlib.Core.Path.{_≡_, sym, ap, _∙_}
 use mathlib.Core.List.{List, [], _∷_}
 use Rattle.correction.specs.declared.Answer.{Answer}
 use Rattle.correction.specs.declared.Answer.the-variants.{Applied}
-use Rattle.correction.specs.Corrections.{Order, answerOf, correctedOf}
+use Rattle.correction.specs.declared.Order.{Order}
+use Rattle.correction.specs.Corrections.{answerOf, correctedOf}
 use Rattle.correction.specs.Demand3.{Measurement, Same, Different, correctedAll, answersTo, EitherOrder, Demand3}
 use Rattle.correction.proofs.KeepsLaws.{answer-kept}
 use Rattle.correction.proofs.PairLaws.{Differ, either-order, later-alone}

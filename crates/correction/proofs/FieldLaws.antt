@@ -13,7 +13,7 @@ use borrow.Author.Tests.{eqb-true, eqb-false, ltb-true, ltb-false}
 use Rattle.text.specs.Cells.{pieces, lineAt, cellAt, next}
 use Rattle.text.specs.Spaces.{lead, back, trim}
 use Rattle.text.specs.Names.{isName}
-use Rattle.text.specs.Judge.{kindOf, judge}
+use Rattle.text.specs.Judge.{judge}
 use Rattle.text.specs.Rows.{isGood, sizeOf}
 use Rattle.text.specs.Scans.{Stop}
 use Rattle.text.proofs.CellLaws.{end-feed, next-from, next-within, next-parts, cell-end, pieces-last, pieces-more}
@@ -81,7 +81,7 @@ good-name r d g = go (isRow r)
     go false = refl
 
 good-decimal : (r n g : List ℕ) → allGood r n [] g ≡ false
-unfolding allGood judge kindOf trim back lead
+unfolding allGood judge trim back lead
 good-decimal r n g = and-false (isRow r && isName n)
 
 good-flag : (r n d : List ℕ) → allGood r n d [] ≡ false

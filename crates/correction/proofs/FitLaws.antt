@@ -6,6 +6,7 @@ use mathlib.Core.List.{List, [], _∷_, map}
 use native.Mathlib.Omega.{arith}
 use lib.ListN.{length, getD, length-map, List·getD-map}
 use lib.Dec.{eqb, leb, ltb}
+use lib.IntN.{ℤ}
 use borrow.Author.Tests.{leb-true, ltb-true, ltb-false, eqb-true, not-false}
 use Rattle.text.specs.Bytes.{every}
 use Rattle.text.specs.Names.{beginsCtd}
@@ -22,69 +23,111 @@ use Rattle.exchange.specs.Places.{Table, accepted, outcomeOf}
 use Rattle.exchange.specs.RuleWords.{cellFaults, rowRules}
 use Rattle.exchange.specs.Profiles.{grid}
 use Rattle.exchange.specs.Answers.{kindAt}
-use Rattle.exchange.specs.Located.{nameAt, flagColumn, hasFlag}
+use Rattle.exchange.specs.Located.{nameAt, isMeasured, flagColumn, hasFlag}
 use Rattle.exchange.proofs.HeaderLaws.{then-clean, breaks-clean}
 use Rattle.exchange.proofs.GridLaws.{cells-many}
 use Rattle.laws.proofs.JoinLaws.{Free, All}
 use Rattle.laws.proofs.WriteLaws.{RowHolds, row-holds, Fits}
-use Rattle.correction.specs.Texts.{size, numberText, flagText, atRight}
-use Rattle.correction.specs.Corrections.{Order, badNumber, inSet, badFlag, textsOf}
+use Rattle.correction.specs.declared.Answer.the-variants.{Applied}
+use Rattle.correction.specs.Texts.{size, numberText, flagText}
+use Rattle.correction.specs.declared.Order.{Order}
+use Rattle.correction.specs.Corrections.{Entry, entry, entriesOf, numberEntries, isThere, notCorrectable, badNumber, inSet, badFlag, anyLonger, testsOf}
+use Rattle.correction.specs.Demand3.{NoneHolds}
 use Rattle.correction.proofs.DigitLaws.{every-from}
 use Rattle.correction.proofs.TextLaws.{atRight-length, isPlain, number-plain, flag-plain, Writable, number-judged, flag-judged}
 use Rattle.correction.proofs.GeometryLaws.{Shape, shape, cell-row, widthAt, width-cell, inside-of}
 use Rattle.correction.proofs.PutLaws.{Put, Fit, inRow}
-use Rattle.correction.proofs.PlanLaws.{cellColumns, lineOf, Tests, writesTo, writes}
+use Rattle.correction.proofs.TestLaws.{none-holds, passed}
+use Rattle.correction.proofs.PlanLaws.{lineOf, blankRow, blank-width, decideIn, putOf}
 use Rattle.correction.proofs.ColumnLaws.{FlagOf, flag-of, Measured}
 
 -- ---- what an applied correction asks for
+-- of a number, to be written into column c
+pub record NumberAsked (sh : Shape) (l c : ℕ) (m : ℤ) (d : ℕ) : Type 0 where
+  pub number : Writable m d
+  pub fits : length (numberText m d) ≤ widthAt sh l (c - 1)
+
 pub record Asked (t : Table) (n : ℕ) (sh : Shape) (o : Order) : Type 0 where
   pub row : 1 ≤ o .row
   pub rows : o .row ≤ n
   pub col : 1 ≤ o .column
   pub cols : o .column ≤ length (t .names)
   pub measured : Measured t (o .column)
-  pub number : Writable (o .millionths) (o .decimals)
+  pub value : NumberAsked sh (lineOf t o) (o .column) (o .millionths) (o .decimals)
   pub flag : hasFlag t (o .column) ≡ true → inSet (beginsCtd (nameAt t (o .column))) (o .flag) ≡ true
-  pub fits : length (numberText (o .millionths) (o .decimals)) ≤ widthAt sh (lineOf t o) (o .column - 1)
 
-none-holds : (a b c : Bool) → (a || (not b || not c)) ≡ false → (a ≡ false) × (b ≡ true) × (c ≡ true)
-none-holds true b c e = absurd (true≢false e)
-none-holds false false c e = absurd (true≢false e)
-none-holds false true false e = absurd (true≢false e)
-none-holds false true true e = (refl, refl, refl)
+-- 21
+pub record There (t : Table) (n : ℕ) (o : Order) : Type 0 where
+  pub row : 1 ≤ o .row
+  pub rows : o .row ≤ n
+  pub col : 1 ≤ o .column
+  pub cols : o .column ≤ length (t .names)
+
+pub there : (t : Table) (n : ℕ) (o : Order) → isThere t n o ≡ true → There t n o
+there t n o e =
+    let m : ℕ = length (t .names) in
+    let both = (and-eq-true-iff (leb 1 (o .row) && leb (o .row) n) (leb 1 (o .column) && leb (o .column) m)) .0 e in
+    let r = (and-eq-true-iff (leb 1 (o .row)) (leb (o .row) n)) .0 (both .0) in
+    let c = (and-eq-true-iff (leb 1 (o .column)) (leb (o .column) m)) .0 (both .1) in
+    record { row = leb-true 1 (o .row) (r .0); rows = leb-true (o .row) n (r .1); col = leb-true 1 (o .column) (c .0); cols = leb-true (o .column) m (c .1) }
+
+-- 22
+column-good : (t : Table) (n : ℕ) (o : Order) → There t n o → notCorrectable t o ≡ false → Measured t (o .column)
+column-good t n o w e = record {
+  in-line = omega (arith, w .col, w .cols);
+  kind = eqb-true (kindAt t (o .column)) 0 (not-false (isMeasured t (o .column)) e);
+}
+
+-- 23
+none-of : (a b c : Bool) → (a || (not b || not c)) ≡ false → (a ≡ false) × (b ≡ true) × (c ≡ true)
+none-of true b c e = absurd (true≢false e)
+none-of false false c e = absurd (true≢false e)
+none-of false true false e = absurd (true≢false e)
+none-of false true true e = (refl, refl, refl)
 
 number-good : (o : Order) → badNumber o ≡ false → Writable (o .millionths) (o .decimals)
 unfolding badNumber
 number-good o e =
-    let w = none-holds (ltb 6 (o .decimals)) (ltb (size (o .millionths)) (10 ^ 15)) (eqb (size (o .millionths) % 10 ^ (6 - o .decimals)) 0) e in
-    record {
-      few = ltb-false 6 (o .decimals) (w .0);
-      small = ltb-true (size (o .millionths)) (10 ^ 15) (w .1);
-      exact = eqb-true (size (o .millionths) % 10 ^ (6 - o .decimals)) 0 (w .2);
-    }
+    let m : ℤ = o .millionths in
+    let d : ℕ = o .decimals in
+    let w = none-of (ltb 6 d) (ltb (size m) (10 ^ 15)) (eqb (size m % 10 ^ (6 - d)) 0) e in
+    record { few = ltb-false 6 d (w .0); small = ltb-true (size m) (10 ^ 15) (w .1); exact = eqb-true (size m % 10 ^ (6 - d)) 0 (w .2) }
 
+-- 24
 flag-good : (t : Table) (o : Order) → badFlag t o ≡ false → hasFlag t (o .column) ≡ true → inSet (beginsCtd (nameAt t (o .column))) (o .flag) ≡ true
 unfolding badFlag
 flag-good t o e h = rw h at (not-false (cond (hasFlag t (o .column)) (inSet (beginsCtd (nameAt t (o .column))) (o .flag)) (eqb (o .flag) 0)) e)
 
-pub asked : (t : Table) (n : ℕ) (sh : Shape) (o : Order) → Tests t n sh o → Asked t n sh o
+-- 25
+neither : (a b : Bool) → (a || b) ≡ false → (a ≡ false) × (b ≡ false)
+neither true b e = absurd (true≢false e)
+neither false b e = (refl, e)
+
+text-fits : (own : ℕ → List ℕ) (es : List Entry) → anyLonger own es ≡ false → All (λ (e : Entry). length (e .text) ≤ length (own (e .column))) es
+unfolding anyLonger
+text-fits own [] e = tt
+text-fits own (x ∷ es) e =
+    let w = neither (ltb (length (own (x .column))) (length (x .text))) (anyLonger own es) e in
+    (ltb-false (length (own (x .column))) (length (x .text)) (w .0), text-fits own es (w .1))
+
+asked : (t : Table) (n : ℕ) (sh : Shape) (o : Order) → NoneHolds (testsOf t n (blankRow sh (lineOf t o)) o) → Asked t n sh o
 asked t n sh o w =
-    let m : ℕ = length (t .names) in
-    let both = (and-eq-true-iff (leb 1 (o .row) && leb (o .row) n) (leb 1 (o .column) && leb (o .column) m)) .0 (w .there) in
-    let r = (and-eq-true-iff (leb 1 (o .row)) (leb (o .row) n)) .0 (both .0) in
-    let c = (and-eq-true-iff (leb 1 (o .column)) (leb (o .column) m)) .0 (both .1) in
-    let c1 : 1 ≤ o .column = leb-true 1 (o .column) (c .0) in
-    let c2 : o .column ≤ length (t .names) = leb-true (o .column) m (c .1) in
+    let ts = testsOf t n (blankRow sh (lineOf t o)) o in
+    let h = there t n o (not-false (isThere t n o) (passed 21 ts w)) in
+    let x = text-fits (blankRow sh (lineOf t o)) (numberEntries t o) (passed 25 ts w) in
     record {
-      row = leb-true 1 (o .row) (r .0);
-      rows = leb-true (o .row) n (r .1);
-      col = c1;
-      cols = c2;
-      measured = record { in-line = omega arith; kind = eqb-true (kindAt t (o .column)) 0 (w .measured) };
-      number = number-good o (w .number);
-      flag = flag-good t o (w .flag);
-      fits = ltb-false (widthAt sh (lineOf t o) (o .column - 1)) (length (numberText (o .millionths) (o .decimals))) (w .fits);
+      row = h .row;
+      rows = h .rows;
+      col = h .col;
+      cols = h .cols;
+      measured = column-good t n o h (passed 22 ts w);
+      value = record { number = number-good o (passed 23 ts w); fits = omega (arith, x .0, blank-width sh (lineOf t o) (o .column)) };
+      flag = flag-good t o (passed 24 ts w);
     }
+
+pub applied-asked : (t : Table) (n : ℕ) (sh : Shape) (o : Order) → decideIn t n sh o ≡ Applied → Asked t n sh o
+unfolding decideIn
+applied-asked t n sh o e = asked t n sh o (none-holds (testsOf t n (blankRow sh (lineOf t o)) o) e)
 
 -- ---- the cells of a row that keeps its rules are good, and a flag cell is not empty
 fault-kept : (v : Verdict) (c : ℕ) → kindFault v c ≡ clean → isGood v ≡ true
@@ -125,9 +168,21 @@ flag-most ctd v e =
     let w = (and-eq-true-iff (leb 1 v && leb v 9) (not (ctd && eqb v 8))) .0 e in
     leb-true v 9 ((and-eq-true-iff (leb 1 v) (leb v 9)) .0 (w .0) .1)
 
-pub goods : (f : List ℕ) (t : Table) (n : ℕ) (o : Order) → outcomeOf f ≡ accepted t n → Asked t n (shape (grid f)) o → All (Good t (shape (grid f))) (writes (accepted t n) (shape (grid f)) o)
-unfolding cellColumns writesTo
-goods f t n o e a = go (hasFlag t (o .column)) refl
+-- a number in a measured column
+number-put : (t : Table) (sh : Shape) (l j : ℕ) (m : ℤ) (d : ℕ) → j - 1 < length (t .names) → kindAt t j ≡ 0 → NumberAsked sh l j m d → Good t sh (putOf sh l (entry j (numberText m d)))
+number-put t sh l j m d i k a = record {
+  in-line = i;
+  long = atRight-length (widthAt sh l (j - 1)) (numberText m d) (a .fits);
+  plain = number-plain m d (widthAt sh l (j - 1));
+  kind = rw (k, number-judged m d (widthAt sh l (j - 1)) (a .number) (a .fits));
+}
+
+pub goods : (f : List ℕ) (t : Table) (n : ℕ) (o : Order) → outcomeOf f ≡ accepted t n → Asked t n (shape (grid f)) o
+    → All (λ (x : Entry). Good t (shape (grid f)) (putOf (shape (grid f)) (lineOf t o) x)) (entriesOf t o)
+goods f t n o e a = (
+  number-put t sh l (o .column) (o .millionths) (o .decimals) (a .measured .in-line) (a .measured .kind) (a .value),
+  flags (hasFlag t (o .column)) refl,
+)
   where
     sh : Shape
     sh = shape (grid f)
@@ -138,18 +193,10 @@ goods f t n o e a = go (hasFlag t (o .column)) refl
     holds : RowHolds (kindsOf (t .names)) (getD (grid f) l [])
     holds = row-holds f t n (o .row - 1) e (omega (arith, a .row, a .rows))
 
-    value : Good t sh (record { line = l; col = o .column - 1; text = atRight (widthAt sh l (o .column - 1)) (numberText (o .millionths) (o .decimals)) })
-    value = record {
-      in-line = a .measured .in-line;
-      long = atRight-length (widthAt sh l (o .column - 1)) (numberText (o .millionths) (o .decimals)) (a .fits);
-      plain = number-plain (o .millionths) (o .decimals) (widthAt sh l (o .column - 1));
-      kind = rw (a .measured .kind, number-judged (o .millionths) (o .decimals) (widthAt sh l (o .column - 1)) (a .number) (a .fits));
-    }
-
     ctd : Bool
     ctd = beginsCtd (nameAt t (o .column))
 
-    flag : (j : ℕ) → FlagOf t (o .column) j → inSet ctd (o .flag) ≡ true → Good t sh (record { line = l; col = j - 1; text = atRight (widthAt sh l (j - 1)) (flagText (o .flag)) })
+    flag : (j : ℕ) → FlagOf t (o .column) j → inSet ctd (o .flag) ≡ true → Good t sh (putOf sh l (entry j (flagText (o .flag))))
     flag j w s =
         let i : j - 1 < length (t .names) = omega (arith, w .some, w .most) in
         let k : j - 1 < length (kindsOf (t .names)) = rw length-map i in
@@ -163,9 +210,9 @@ goods f t n o e a = go (hasFlag t (o .column)) refl
           kind = rw (w .kind, flag-judged ctd (o .flag) (widthAt sh l (j - 1)) s some);
         }
 
-    go : (b : Bool) → hasFlag t (o .column) ≡ b → All (Good t sh) (writesTo sh l ((o .column - 1) ∷ cond b ((flagColumn t (o .column) - 1) ∷ []) []) (textsOf o))
-    go true h = (value, (flag (flagColumn t (o .column)) (flag-of t (o .column) (a .measured .in-line) h) (a .flag h), tt))
-    go false h = (value, tt)
+    flags : (b : Bool) → hasFlag t (o .column) ≡ b → All (λ (x : Entry). Good t sh (putOf sh l x)) (cond b (entry (flagColumn t (o .column)) (flagText (o .flag)) ∷ []) [])
+    flags true h = (flag (flagColumn t (o .column)) (flag-of t (o .column) (a .measured .in-line) h) (a .flag h), tt)
+    flags false h = tt
 
 -- ---- such puts fit, by the shape and by the row
 plain-free : (c : ℕ) → isPlain c ≡ false → (xs : List ℕ) → every isPlain xs ≡ true → Free c xs

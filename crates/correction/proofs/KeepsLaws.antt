@@ -1,6 +1,7 @@
 -- The key law, for any file and any correction, refused or not: the outcome stays, the widths of all cells stay, and the grid is changed by the plan alone.
 use Prim.Native.Nat.{ℕ, _+_, _-_, _<_}
 use mathlib.Core.Path.{_≡_, refl, sym, ap, _∙_, subst}
+use mathlib.Core.Bool.{Bool, true, false, cond}
 use mathlib.Core.List.{List, [], _∷_, map}
 use native.Mathlib.Omega.{arith}
 use lib.ListN.{length, getD, length-map, length-drop}
@@ -10,7 +11,10 @@ use Rattle.exchange.specs.Places.{Table, Outcome, accepted, refused, outcomeOf}
 use Rattle.laws.specs.Writes.{ungrid}
 use Rattle.exchange.specs.Profiles.{grid}
 use Rattle.exchange.specs.Faults.{clean, firstOf}
-use Rattle.exchange.specs.Located.{cellsBy, cellsOf}
+use Rattle.exchange.specs.Rows.{boundList}
+use Rattle.exchange.specs.RuleWords.{boundFault}
+use Rattle.exchange.specs.Answers.{cellPlace}
+use Rattle.exchange.specs.Located.{nowhere, flagColumn, hasFlag, measurementCells, cellsBy, cellsOf}
 use Rattle.exchange.proofs.AcceptLaws.{rows-kept}
 use Rattle.exchange.proofs.GridLaws.{cells-many}
 use Rattle.laws.proofs.JoinLaws.{All}
@@ -19,13 +23,12 @@ use Rattle.laws.proofs.WriteLaws.{row-holds, Fits, file-written}
 use Rattle.text.specs.declared.Span.{Span}
 use Rattle.correction.specs.declared.Answer.{Answer}
 use Rattle.correction.specs.declared.Answer.the-variants.{Applied, Refused}
-use Rattle.exchange.specs.Rows.{boundList}
-use Rattle.exchange.specs.RuleWords.{boundFault}
-use Rattle.correction.specs.Corrections.{Order, answerOf, textsOf, correctedOf}
+use Rattle.correction.specs.declared.Order.{Order}
+use Rattle.correction.specs.Corrections.{Entry, entriesOf, answerOf, correctedOf}
 use Rattle.correction.proofs.GeometryLaws.{Grid, Shape, shape, lineLong, ungrid-long}
 use Rattle.correction.proofs.PutLaws.{Put, puts, Fit, PutsDone, puts-done, inRow, puts-row}
-use Rattle.correction.proofs.PlanLaws.{spanAt, cellColumns, lineOf, measurement-places, decideIn, decide, answer-view, tests-kept, writesTo, writes, ifApplied, plan, corrected-view}
-use Rattle.correction.proofs.FitLaws.{Asked, asked, Good, goods, put-fit, put-fits}
+use Rattle.correction.proofs.PlanLaws.{spanAt, place-shape, lineOf, decideIn, decide, answer-view, putOf, all-writes, writes-on, writes, ifApplied, Part, planBy, plan, corrected-view}
+use Rattle.correction.proofs.FitLaws.{Asked, applied-asked, Good, goods, put-fit, put-fits}
 
 all-fit : {P Q : Put → Type 0} (ws : List Put) (l : ℕ) → ((w : Put) → w .line ≡ l → P w → Q w) → All (λ w. w .line ≡ l) ws → All P ws → All Q ws
 all-fit [] l h a b = tt
@@ -35,12 +38,6 @@ all-rows : (P : Put → Type 0) (ks widths : List ℕ) (ws : List Put) (l : ℕ)
 all-rows P ks widths [] l h a b = tt
 all-rows P ks widths (w ∷ ws) l h a b = (h w (a .0) (b .0), all-rows P ks widths ws l h (a .1) (b .1))
 
-on-line : (sh : Shape) (l : ℕ) (cs : List ℕ) (xs : List (List ℕ)) → All (λ w. w .line ≡ l) (writesTo sh l cs xs)
-unfolding writesTo
-on-line sh l [] xs = tt
-on-line sh l (c ∷ cs) [] = tt
-on-line sh l (c ∷ cs) (x ∷ xs) = (refl, on-line sh l cs xs)
-
 -- what binds the cells of a row together holds of the corrected row
 bound-kept : (ns ts : List (List ℕ)) → boundFault ns ts ≡ clean
 unfolding boundFault boundList firstOf
@@ -49,7 +46,10 @@ bound-kept ns ts = refl
 -- ---- an accepted file, an applied correction
 module _ (f : List ℕ) (t : Table) (n : ℕ) (e : outcomeOf f ≡ accepted t n) (o : Order) (a : Asked t n (shape (grid f)) o) where
   abbrev ws : List Put
-  ws = writes (accepted t n) (shape (grid f)) o
+  ws = writes entriesOf (accepted t n) (shape (grid f)) o
+
+  good : All (Good t (shape (grid f))) ws
+  good = all-writes (λ (x : Entry). Good t (shape (grid f)) (putOf (shape (grid f)) (lineOf t o) x)) (Good t (shape (grid f))) (shape (grid f)) (lineOf t o) (entriesOf t o) (λ x g. g) (goods f t n o e a)
 
   below : o .row - 1 < n
   below = omega (arith, a .row, a .rows)
@@ -58,10 +58,10 @@ module _ (f : List ℕ) (t : Table) (n : ℕ) (e : outcomeOf f ≡ accepted t n)
   many = cells-many (kindsOf (t .names)) (getD (grid f) (lineOf t o) []) (row-holds f t n (o .row - 1) e below .cells) ∙ length-map (t .names) kindOfName
 
   lines : All (λ w. w .line ≡ lineOf t o) ws
-  lines = on-line (shape (grid f)) (lineOf t o) (cellColumns t (o .column)) (textsOf o)
+  lines = writes-on (shape (grid f)) (lineOf t o) (entriesOf t o)
 
   applied-fit : All (Fit (shape (grid f))) ws
-  applied-fit = all-fit ws (lineOf t o) (put-fit f t (lineOf t o) many) lines (goods f t n o e a)
+  applied-fit = all-fit ws (lineOf t o) (put-fit f t (lineOf t o) many) lines good
 
   in-grid : lineOf t o < length (grid f)
   in-grid = omega (arith, rows-kept f t n e (o .row - 1) below .line, length-drop (t .line) (pieces 10 f), length-map (pieces 10 f) (pieces 44))
@@ -70,7 +70,7 @@ module _ (f : List ℕ) (t : Table) (n : ℕ) (e : outcomeOf f ≡ accepted t n)
   applied-kept =
       ap (λ (g : Grid). outcomeOf (ungrid g)) (puts-row ws (grid f) (lineOf t o) in-grid lines)
       ∙ file-written f t n (o .row - 1) e below (map inRow ws)
-      (all-rows (Good t (shape (grid f))) (kindsOf (t .names)) (map length (getD (grid f) (lineOf t o) [])) ws (lineOf t o) (put-fits f t (lineOf t o) many) lines (goods f t n o e a))
+      (all-rows (Good t (shape (grid f))) (kindsOf (t .names)) (map length (getD (grid f) (lineOf t o) [])) ws (lineOf t o) (put-fits f t (lineOf t o) many) lines good)
       (o .column - 1) (rw length-map (a .measured .in-line)) (a .measured .kind) (bound-kept (t .names) _)
 
 -- ---- any file, any correction
@@ -79,12 +79,12 @@ record Planned (f : List ℕ) (p : Outcome) (o : Order) : Type 0 where
   end : outcomeOf (ungrid (puts (grid f) (plan p (shape (grid f)) o))) ≡ p
 
 planned : (f : List ℕ) (p : Outcome) (o : Order) → outcomeOf f ≡ p → Planned f p o
-unfolding plan
+unfolding planBy
 planned f (refused x y z) o e = record { fit = tt; end = ap outcomeOf (ungrid-grid f) ∙ e }
 planned f (accepted t n) o e = go (decideIn t n (shape (grid f)) o) refl
   where
     ws : List Put
-    ws = writes (accepted t n) (shape (grid f)) o
+    ws = writes entriesOf (accepted t n) (shape (grid f)) o
 
     go : (x : Answer) → decideIn t n (shape (grid f)) o ≡ x → Planned f (accepted t n) o
     go (Refused x y z) q = record {
@@ -92,14 +92,18 @@ planned f (accepted t n) o e = go (decideIn t n (shape (grid f)) o) refl
       end = ap (λ (a : Answer). outcomeOf (ungrid (puts (grid f) (ifApplied a ws)))) q ∙ ap outcomeOf (ungrid-grid f) ∙ e;
     }
     go Applied q =
-        let a = asked t n (shape (grid f)) o (tests-kept t n (shape (grid f)) o q) in
+        let a = applied-asked t n (shape (grid f)) o q in
         record {
           fit = subst (λ (a : Answer). All (Fit (shape (grid f))) (ifApplied a ws)) (sym q) (applied-fit f t n e o a);
           end = ap (λ (a : Answer). outcomeOf (ungrid (puts (grid f) (ifApplied a ws)))) q ∙ applied-kept f t n e o a;
         }
 
+-- a part of what is put, and all of it
+abbrev pub partOf : Part → List ℕ → Order → List Put
+partOf es f o = planBy es (outcomeOf f) (shape (grid f)) o
+
 abbrev pub planOf : List ℕ → Order → List Put
-planOf f o = plan (outcomeOf f) (shape (grid f)) o
+planOf f o = partOf entriesOf f o
 
 pub record Keeps (f : List ℕ) (o : Order) : Type 0 where
   pub fit : All (Fit (shape (grid f))) (planOf f o)
@@ -128,18 +132,25 @@ answer-kept f o p =
     ∙ ap (λ (sh : Shape). decide (outcomeOf f) sh p) (keeps f o .wide)
     ∙ sym (answer-view f p)
 
-pub plan-kept : (f : List ℕ) (o p : Order) → planOf (correctedOf f o) p ≡ planOf f p
-plan-kept f o p = ap (λ (x : Outcome). plan x (shape (grid (correctedOf f o))) p) (keeps f o .end) ∙ ap (λ (sh : Shape). plan (outcomeOf f) sh p) (keeps f o .wide)
+pub part-kept : (es : Part) (f : List ℕ) (o p : Order) → partOf es (correctedOf f o) p ≡ partOf es f p
+part-kept es f o p = ap (λ (x : Outcome). planBy es x (shape (grid (correctedOf f o))) p) (keeps f o .end) ∙ ap (λ (sh : Shape). planBy es (outcomeOf f) sh p) (keeps f o .wide)
 
-abbrev pub placesBy : Outcome → Shape → ℕ → ℕ → List Span
-placesBy (accepted t n) sh r c = map (spanAt sh (t .line + (r - 1))) (cellColumns t c)
+-- the places of the cells in a line, by the widths
+abbrev placesBy : Outcome → Shape → ℕ → ℕ → List Span
+placesBy (accepted t n) sh r c = spanAt sh (t .line + (r - 1)) (c - 1) ∷ cond (hasFlag t c) (spanAt sh (t .line + (r - 1)) (flagColumn t c - 1) ∷ []) []
 placesBy (refused x y z) sh r c = []
 
-pub places-view : (f : List ℕ) (r c : ℕ) → cellsOf f r c ≡ placesBy (outcomeOf f) (shape (grid f)) r c
+places-view : (f : List ℕ) (r c : ℕ) → cellsOf f r c ≡ placesBy (outcomeOf f) (shape (grid f)) r c
+unfolding measurementCells
 places-view f r c = go (outcomeOf f)
   where
     go : (p : Outcome) → cellsBy f r c p ≡ placesBy p (shape (grid f)) r c
-    go (accepted t n) = measurement-places t f r c
+    go (accepted t n) = by (hasFlag t c)
+      where
+        by : (b : Bool) → cellPlace t f r c ∷ cond b (cond b (cellPlace t f r (flagColumn t c)) nowhere ∷ []) []
+            ≡ spanAt (shape (grid f)) (t .line + (r - 1)) (c - 1) ∷ cond b (spanAt (shape (grid f)) (t .line + (r - 1)) (flagColumn t c - 1) ∷ []) []
+        by true = rw (place-shape t f r c, place-shape t f r (flagColumn t c))
+        by false = rw (place-shape t f r c)
     go (refused x y z) = refl
 
 pub places-kept : (f : List ℕ) (o : Order) (r c : ℕ) → cellsOf (correctedOf f o) r c ≡ cellsOf f r c

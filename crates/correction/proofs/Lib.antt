@@ -1,4 +1,5 @@
 pub mod ColumnLaws
+pub mod CoverLaws
 pub mod CorrectLaws
 pub mod DecideLaws
 pub mod DigitLaws
@@ -6,6 +7,7 @@ pub mod FitLaws
 pub mod GeometryLaws
 pub mod KeepsLaws
 pub mod PairLaws
+pub mod PartLaws
 pub mod PlanLaws
 pub mod PutLaws
 pub mod ReadLaws
@@ -17,6 +19,7 @@ pub mod OneLineLaws
 pub mod FieldLaws
 pub mod ListLineLaws
 pub mod SizeLaws
+pub mod TestLaws
 pub mod TextLaws
 pub mod UniqueLaws
 pub mod WriteLaws

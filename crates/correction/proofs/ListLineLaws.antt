@@ -14,7 +14,7 @@ use Rattle.text.specs.Cells.{firstPiece, laterPieces, pieces, next}
 use Rattle.text.specs.Spaces.{lead, back, trim}
 use Rattle.text.specs.Names.{isName}
 use Rattle.text.specs.Decimals.{Verdict, blank, wrong, outOfRange, good}
-use Rattle.text.specs.Judge.{judgedOf, judgedAt, wholeAt}
+use Rattle.text.specs.Judge.{kindOf, judgedOf, judgedAt, wholeAt}
 use Rattle.text.specs.Rows.{isGood}
 use Rattle.text.specs.Reading.{signed}
 use Rattle.text.specs.Scans.{isEnd}
@@ -107,6 +107,7 @@ module _ {s : List ℕ} {e : ℕ} (t : Ends s 0 e) {row name : Judged} {a : ℕ}
     value-ends = rw value-at (after-ends name-ends)
 
     value-is : value ≡ judgedOf (next 9 s b) (decimalIn (field s b))
+    unfolding kindOf
     value-is = w3 ∙ judged-stop (tabs-stop value-ends) 0
 
     flag-at : c ≡ after (next 9 s b) e

@@ -2,10 +2,9 @@
 -- leaves are the file's grid with these writes.
 use Prim.Native.Nat.{ℕ, zero, suc, _+_, _-_, _<_}
 use mathlib.Core.Path.{_≡_, refl, sym, ap, _∙_, subst}
-use mathlib.Core.Bool.{Bool, true, false, cond, not}
+use mathlib.Core.Bool.{Bool, true, false, cond, _||_}
 use mathlib.Core.List.{List, [], _∷_, map}
-use native.Mathlib.Omega.{arith}
-use lib.ListN.{length, getD, take, drop, length-map, List·getD-map, List·getD-eq-default}
+use lib.ListN.{length, getD, take, drop, replicate, length-map, length-replicate, List·getD-map, List·getD-eq-default}
 use lib.Dec.{ltb}
 use borrow.Author.Tests.{ltb-true, ltb-false, lt-ltb}
 use Rattle.text.specs.declared.Span.{Span}
@@ -15,13 +14,14 @@ use Rattle.exchange.specs.Grid.{starts, spanIn}
 use Rattle.laws.specs.Writes.{join, ungrid}
 use Rattle.exchange.specs.Profiles.{grid}
 use Rattle.exchange.specs.Answers.{cellPlace}
-use Rattle.exchange.specs.Located.{isMeasured, flagColumn, hasFlag, nowhere, measurementCells, cellsBy, cellsOf}
+use Rattle.exchange.specs.Located.{nowhere}
 use Rattle.laws.proofs.JoinLaws.{All}
 use Rattle.laws.proofs.UngridLaws.{clean-grid, ungrid-grid, lines-ungrid}
 use Rattle.correction.specs.declared.Answer.{Answer}
 use Rattle.correction.specs.declared.Answer.the-variants.{Applied, Refused}
-use Rattle.correction.specs.Texts.{numberText, atRight}
-use Rattle.correction.specs.Corrections.{Order, isThere, badNumber, badFlag, tooLong, test, firstThat, textAt, ownTexts, answerBy, answerOf, patch, textsOf, filled, leftBy, correctedOf}
+use Rattle.correction.specs.Texts.{atRight}
+use Rattle.correction.specs.declared.Order.{Order}
+use Rattle.correction.specs.Corrections.{Entry, entriesOf, numberEntries, anyLonger, textTooLong, testsOf, firstThat, textAt, ownText, answerBy, answerOf, patch, fillAt, fillsBy, fillsOf, filled, leftBy, correctedOf}
 use Rattle.correction.proofs.GeometryLaws.{Grid, Shape, widthsOf, shape, put, cellIn, cell-row, widthAt, width-cell, Inside, inside-of, shape-put, lineLong, begin, lines-long, put-patch, cell-bytes}
 use Rattle.correction.proofs.PutLaws.{Put, puts, Fit}
 
@@ -74,39 +74,39 @@ text-place f l c = go (ltb c (length (getD (grid f) l []))) refl
     go false e =
         rw (long, e) (sym (cell-row (grid f) l c ∙ List·getD-eq-default (getD (grid f) l []) [] (ltb-false c (length (getD (grid f) l [])) e)))
 
--- ---- the cells of a measurement, by their columns, from 0
-unfoldable pub cellColumns : Table → ℕ → List ℕ
-cellColumns t c = (c - 1) ∷ cond (hasFlag t c) ((flagColumn t c - 1) ∷ []) []
-
 abbrev pub lineOf : Table → Order → ℕ
 lineOf t o = t .line + (o .row - 1)
 
-pub measurement-places : (t : Table) (f : List ℕ) (r c : ℕ) → measurementCells t f r c ≡ map (spanAt (shape (grid f)) (t .line + (r - 1))) (cellColumns t c)
-unfolding measurementCells cellColumns
-measurement-places t f r c = go (hasFlag t c)
-  where
-    go : (b : Bool) → cellPlace t f r c ∷ cond b (cond b (cellPlace t f r (flagColumn t c)) nowhere ∷ []) []
-        ≡ map (spanAt (shape (grid f)) (t .line + (r - 1))) ((c - 1) ∷ cond b ((flagColumn t c - 1) ∷ []) [])
-    go true = rw (place-shape t f r c, place-shape t f r (flagColumn t c))
-    go false = rw (place-shape t f r c)
+-- ---- the answer, by the outcome and the widths: that of a row of spaces as wide as the file's
+abbrev pub blankRow : Shape → ℕ → ℕ → List ℕ
+blankRow sh l c = replicate (widthAt sh l (c - 1)) 32
 
--- ---- the answer, by the outcome and the widths
-abbrev pub wide : Table → Shape → Order → Bool
-wide t sh o = ltb (widthAt sh (lineOf t o) (o .column - 1)) (length (numberText (o .millionths) (o .decimals)))
+pub blank-width : (sh : Shape) (l c : ℕ) → length (blankRow sh l c) ≡ widthAt sh l (c - 1)
+blank-width sh l c = length-replicate {A = ℕ} (widthAt sh l (c - 1)) 32
 
 unfoldable pub decideIn : Table → ℕ → Shape → Order → Answer
-decideIn t n sh o =
-    firstThat (test 21 (not (isThere t n o)) ∷ test 22 (not (isMeasured t (o .column))) ∷ test 23 (badNumber o) ∷ test 24 (badFlag t o) ∷ test 25 (wide t sh o) ∷ [])
+decideIn t n sh o = firstThat (testsOf t n (blankRow sh (lineOf t o)) o)
 
 abbrev pub decide : Outcome → Shape → Order → Answer
 decide (accepted t n) sh o = decideIn t n sh o
 decide (refused a b c) sh o = Refused a b c
 
-pub too-long : (t : Table) (f : List ℕ) (o : Order) → tooLong (ownTexts t f o) o ≡ wide t (shape (grid f)) o
-unfolding tooLong measurementCells
-too-long t f o =
-    ap (λ (n : ℕ). ltb n (length (numberText (o .millionths) (o .decimals))))
-    (ap length (ap (textAt f) (place-shape t f (o .row) (o .column)) ∙ text-place f (lineOf t o) (o .column - 1)) ∙ sym (width-cell (grid f) (lineOf t o) (o .column - 1)))
+own-width : (t : Table) (f : List ℕ) (o : Order) (c : ℕ) → length (ownText t f o c) ≡ length (blankRow (shape (grid f)) (lineOf t o) c)
+own-width t f o c =
+    ap length (ap (textAt f) (place-shape t f (o .row) c) ∙ text-place f (lineOf t o) (c - 1))
+    ∙ sym (width-cell (grid f) (lineOf t o) (c - 1)) ∙ sym (blank-width (shape (grid f)) (lineOf t o) c)
+
+-- 25: nothing but the width is looked at
+any-longer : (own blank : ℕ → List ℕ) → ((c : ℕ) → length (own c) ≡ length (blank c)) → (es : List Entry) → anyLonger own es ≡ anyLonger blank es
+unfolding anyLonger
+any-longer own blank h [] = refl
+any-longer own blank h (e ∷ es) =
+    let a = h (e .column) in
+    let b = any-longer own blank h es in
+    λ i. ltb (a i) (length (e .text)) || b i
+
+too-long : (t : Table) (f : List ℕ) (o : Order) → textTooLong t (ownText t f o) o ≡ textTooLong t (blankRow (shape (grid f)) (lineOf t o)) o
+too-long t f o = any-longer (ownText t f o) (blankRow (shape (grid f)) (lineOf t o)) (own-width t f o) (numberEntries t o)
 
 pub answer-view : (f : List ℕ) (o : Order) → answerOf f o ≡ decide (outcomeOf f) (shape (grid f)) o
 unfolding answerOf decideIn
@@ -116,72 +116,70 @@ answer-view f o = go (outcomeOf f)
     go (accepted t n) = rw (too-long t f o)
     go (refused a b c) = refl
 
--- applied means that no test holds
-pub record Tests (t : Table) (n : ℕ) (sh : Shape) (o : Order) : Type 0 where
-  pub there : isThere t n o ≡ true
-  pub measured : isMeasured t (o .column) ≡ true
-  pub number : badNumber o ≡ false
-  pub flag : badFlag t o ≡ false
-  pub fits : wide t sh o ≡ false
+-- ---- the writes: entries put at their cells of line l
+abbrev pub putOf : Shape → ℕ → Entry → Put
+putOf sh l e = record { line = l; col = e .column - 1; text = atRight (widthAt sh l (e .column - 1)) (e .text) }
 
-pub not-applied : (a b c : ℕ) → Refused a b c ≡ Applied → ⊥
-not-applied a b c e = let z : _≡_ {A = ℕ} 0 1 = cc in omega arith
+unfoldable pub writesTo : Shape → ℕ → List Entry → List Put
+writesTo sh l [] = []
+writesTo sh l (e ∷ es) = putOf sh l e ∷ writesTo sh l es
 
--- in the list of the five tests
-abbrev five : Bool → Bool → Bool → Bool → Bool → Answer
-five a b c d e = firstThat (test 21 (not a) ∷ test 22 (not b) ∷ test 23 c ∷ test 24 d ∷ test 25 e ∷ [])
+pub all-writes : (P : Entry → Type 0) (Q : Put → Type 0) (sh : Shape) (l : ℕ) (es : List Entry) → ((e : Entry) → P e → Q (putOf sh l e)) → All P es → All Q (writesTo sh l es)
+unfolding writesTo
+all-writes P Q sh l [] h a = tt
+all-writes P Q sh l (e ∷ es) h a = (h e (a .0), all-writes P Q sh l es h (a .1))
 
-five-false : (a b c d e : Bool) → five a b c d e ≡ Applied → (a ≡ true) × (b ≡ true) × (c ≡ false) × (d ≡ false) × (e ≡ false)
-unfolding firstThat
-five-false false b c d e h = absurd (not-applied 21 0 0 h)
-five-false true false c d e h = absurd (not-applied 22 0 0 h)
-five-false true true true d e h = absurd (not-applied 23 0 0 h)
-five-false true true false true e h = absurd (not-applied 24 0 0 h)
-five-false true true false false true h = absurd (not-applied 25 0 0 h)
-five-false true true false false false h = (refl, refl, refl, refl, refl)
+pub writes-on : (sh : Shape) (l : ℕ) (es : List Entry) → All (λ w. w .line ≡ l) (writesTo sh l es)
+unfolding writesTo
+writes-on sh l [] = tt
+writes-on sh l (e ∷ es) = (refl, writes-on sh l es)
 
-pub tests-kept : (t : Table) (n : ℕ) (sh : Shape) (o : Order) → decideIn t n sh o ≡ Applied → Tests t n sh o
-unfolding decideIn
-tests-kept t n sh o e =
-    let w = five-false (isThere t n o) (isMeasured t (o .column)) (badNumber o) (badFlag t o) (wide t sh o) e in
-    record { there = w .0; measured = w .1; number = w .2; flag = w .3; fits = w .4 }
-
-pub tests-applied : (t : Table) (n : ℕ) (sh : Shape) (o : Order) → Tests t n sh o → decideIn t n sh o ≡ Applied
-unfolding decideIn firstThat
-tests-applied t n sh o w = rw (w .there, w .measured, w .number, w .flag, w .fits)
-
--- ---- the writes
-unfoldable pub writesTo : Shape → ℕ → List ℕ → List (List ℕ) → List Put
-writesTo sh l [] xs = []
-writesTo sh l (c ∷ cs) [] = []
-writesTo sh l (c ∷ cs) (x ∷ xs) = record { line = l; col = c; text = atRight (widthAt sh l c) x } ∷ writesTo sh l cs xs
-
-abbrev pub writes : Outcome → Shape → Order → List Put
-writes (accepted t n) sh o = writesTo sh (lineOf t o) (cellColumns t (o .column)) (textsOf o)
-writes (refused a b c) sh o = []
+pub writes-all : (Q : Put → Type 0) (sh : Shape) (l : ℕ) (es : List Entry) → All Q (writesTo sh l es) → All (λ (e : Entry). Q (putOf sh l e)) es
+unfolding writesTo
+writes-all Q sh l [] a = tt
+writes-all Q sh l (e ∷ es) a = (a .0, writes-all Q sh l es (a .1))
 
 abbrev pub ifApplied : Answer → List Put → List Put
 ifApplied Applied ws = ws
 ifApplied (Refused a b c) ws = []
 
-unfoldable pub plan : Outcome → Shape → Order → List Put
-plan p sh o = ifApplied (decide p sh o) (writes p sh o)
+-- a part of a correction's entries, put where it is applied
+abbrev pub Part : Type 0
+Part = Table → Order → List Entry
+
+abbrev pub writes : Part → Outcome → Shape → Order → List Put
+writes es (accepted t n) sh o = writesTo sh (lineOf t o) (es t o)
+writes es (refused a b c) sh o = []
+
+unfoldable pub planBy : Part → Outcome → Shape → Order → List Put
+planBy es p sh o = ifApplied (decide p sh o) (writes es p sh o)
+
+abbrev pub plan : Outcome → Shape → Order → List Put
+plan p sh o = planBy entriesOf p sh o
 
 -- texts filled into cells are these writes
-filled-puts : (cs : List ℕ) (xs : List (List ℕ)) (sh : Shape) (l : ℕ) (g : Grid) → shape g ≡ sh → All (Fit sh) (writesTo sh l cs xs)
-    → filled (map (spanAt sh l) cs) xs (ungrid g) ≡ ungrid (puts g (writesTo sh l cs xs))
+filled-puts : (es : List Entry) (t : Table) (f : List ℕ) (r : ℕ) (g : Grid) → shape g ≡ shape (grid f) → All (Fit (shape (grid f))) (writesTo (shape (grid f)) (t .line + (r - 1)) es)
+    → filled (map (fillAt t f r) es) (ungrid g) ≡ ungrid (puts g (writesTo (shape (grid f)) (t .line + (r - 1)) es))
 unfolding filled writesTo
-filled-puts [] xs sh l g e a = refl
-filled-puts (c ∷ cs) [] sh l g e a = refl
-filled-puts (c ∷ cs) (x ∷ xs) sh l g e a =
-    ap (filled (map (spanAt sh l) cs) xs)
-    (ap (λ (p : Span). patch (ungrid g) (p .start) (atRight (p .len) x)) (span-inside sh l c (a .0 .inside))
+filled-puts [] t f r g e a = refl
+filled-puts (x ∷ es) t f r g e a =
+    ap (filled (map (fillAt t f r) es))
+    (ap (λ (p : Span). patch (ungrid g) (p .start) (atRight (p .len) (x .text))) (place-shape t f r (x .column) ∙ span-inside sh l c (a .0 .inside))
     ∙ ap (λ (s : Shape). patch (ungrid g) (begin s l c) text) (sym e)
     ∙ sym (put-patch g l c text (subst (λ (s : Shape). Inside s l c) (sym e) (a .0 .inside)) long))
-    ∙ filled-puts cs xs sh l (put g l c text) (shape-put g l c text long ∙ e) (a .1)
+    ∙ filled-puts es t f r (put g l c text) (shape-put g l c text long ∙ e) (a .1)
   where
+    sh : Shape
+    sh = shape (grid f)
+
+    l : ℕ
+    l = t .line + (r - 1)
+
+    c : ℕ
+    c = x .column - 1
+
     text : List ℕ
-    text = atRight (widthAt sh l c) x
+    text = atRight (widthAt sh l c) (x .text)
 
     long : length text ≡ widthAt (shape g) l c
     long = a .0 .long ∙ ap (λ (s : Shape). widthAt s l c) (sym e)
@@ -189,22 +187,21 @@ filled-puts (c ∷ cs) (x ∷ xs) sh l g e a =
 -- the bytes left, where the writes fit
 pub corrected-view : (f : List ℕ) (o : Order) → All (Fit (shape (grid f))) (plan (outcomeOf f) (shape (grid f)) o)
     → correctedOf f o ≡ ungrid (puts (grid f) (plan (outcomeOf f) (shape (grid f)) o))
-unfolding correctedOf plan filled
+unfolding correctedOf planBy filled
 corrected-view f o a = ap (λ (x : Answer). leftBy x new f) (answer-view f o) ∙ go (decide (outcomeOf f) sh o) a
   where
     sh : Shape
     sh = shape (grid f)
 
     new : List ℕ
-    new = filled (cellsOf f (o .row) (o .column)) (textsOf o) f
+    new = filled (fillsOf f o) f
 
-    full : (p : Outcome) → All (Fit sh) (writes p sh o) → filled (cellsBy f (o .row) (o .column) p) (textsOf o) f ≡ ungrid (puts (grid f) (writes p sh o))
+    full : (p : Outcome) → All (Fit sh) (writes entriesOf p sh o) → filled (fillsBy f o p) f ≡ ungrid (puts (grid f) (writes entriesOf p sh o))
     full (accepted t n) a =
-        ap (λ (ps : List Span). filled ps (textsOf o) f) (measurement-places t f (o .row) (o .column))
-        ∙ ap (filled (map (spanAt sh (lineOf t o)) (cellColumns t (o .column))) (textsOf o)) (sym (ungrid-grid f))
-        ∙ filled-puts (cellColumns t (o .column)) (textsOf o) sh (lineOf t o) (grid f) refl a
+        ap (filled (map (fillAt t f (o .row)) (entriesOf t o))) (sym (ungrid-grid f))
+        ∙ filled-puts (entriesOf t o) t f (o .row) (grid f) refl a
     full (refused x y z) a = sym (ungrid-grid f)
 
-    go : (x : Answer) → All (Fit sh) (ifApplied x (writes (outcomeOf f) sh o)) → leftBy x new f ≡ ungrid (puts (grid f) (ifApplied x (writes (outcomeOf f) sh o)))
+    go : (x : Answer) → All (Fit sh) (ifApplied x (writes entriesOf (outcomeOf f) sh o)) → leftBy x new f ≡ ungrid (puts (grid f) (ifApplied x (writes entriesOf (outcomeOf f) sh o)))
     go Applied a = full (outcomeOf f) a
     go (Refused x y z) a = sym (ungrid-grid f)

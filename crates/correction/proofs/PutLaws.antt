@@ -1,5 +1,5 @@
--- Writes into a grid: texts put at cells of their own width, one after the other. Writes to other cells commute, writes to the same cells are the later
--- ones alone, and what fitting writes do to a grid: the widths stay, the texts stand, the bytes outside are the old ones.
+-- Writes into a grid: texts put at cells of their own width, one after the other. Writes to other cells commute, and what fitting writes do to a grid: the
+-- widths stay, the texts stand, the bytes outside are the old ones.
 use Prim.Native.Nat.{ℕ, _<_}
 use mathlib.Core.Path.{_≡_, refl, sym, ap, _∙_, subst}
 use mathlib.Core.List.{List, [], _∷_, map}
@@ -8,7 +8,7 @@ use lib.Seq.{set-set, set-getD, getD-set-same, lt-length-set, map-set-same}
 use Rattle.laws.specs.Writes.{ungrid, Write, written}
 use Rattle.laws.proofs.JoinLaws.{All}
 use Rattle.laws.proofs.UngridLaws.{CleanCell, Clean}
-use Rattle.correction.proofs.GeometryLaws.{Grid, Shape, shape, put, put-set, put-comm, put-put, cellIn, cell-put-same, cell-put-other, widthAt, Inside, shape-put, clean-put, begin, In, put-outside}
+use Rattle.correction.proofs.GeometryLaws.{Grid, Shape, shape, put, put-set, put-comm, cellIn, cell-put-same, cell-put-other, widthAt, Inside, shape-put, clean-put, begin, In, put-outside}
 
 pub record Put : Type 0 where
   pub line : ℕ
@@ -47,27 +47,6 @@ puts-comm [] vs g a = refl
 puts-comm (w ∷ ws) vs g a =
     puts-comm ws vs (put g (w .line) (w .col) (w .text)) (a .1)
     ∙ ap (λ (x : Grid). puts x ws) (put-puts vs g w (a .0))
-
--- ---- writes to the same cells again
-abbrev pub Alike : List Put → List Put → Type 0
-Alike [] [] = Unit {0}
-Alike [] (v ∷ vs) = ⊥
-Alike (w ∷ ws) [] = ⊥
-Alike (w ∷ ws) (v ∷ vs) = (w .line ≡ v .line) × (w .col ≡ v .col) × Alike ws vs
-
-alike-apart : (ws : List Put) (x y : Put) → x .line ≡ y .line → x .col ≡ y .col → All (Apart x) ws → AllApart ws (y ∷ [])
-alike-apart [] x y a b h = tt
-alike-apart (w ∷ ws) x y a b h = ((λ e. h .0 (a ∙ sym (e .0), b ∙ sym (e .1)), tt), alike-apart ws x y a b (h .1))
-
-pub puts-over : (ws vs : List Put) (g : Grid) → Alike ws vs → Distinct ws → puts (puts g ws) vs ≡ puts g vs
-puts-over [] [] g k d = refl
-puts-over [] (v ∷ vs) g k d = absurd k
-puts-over (w ∷ ws) [] g k d = absurd k
-puts-over (w ∷ ws) (v ∷ vs) g k d =
-    ap (λ (x : Grid). puts x vs)
-    (puts-comm ws (v ∷ []) (put g (w .line) (w .col) (w .text)) (alike-apart ws w v (k .0) (k .1) (d .0))
-    ∙ ap (λ (x : Grid). puts x ws) (rw (k .0, k .1) (put-put g (v .line) (v .col) (w .text) (v .text))))
-    ∙ puts-over ws vs (put g (v .line) (v .col) (v .text)) (k .2) (d .1)
 
 -- ---- what stands
 abbrev pub Stands : Grid → List Put → Type 0

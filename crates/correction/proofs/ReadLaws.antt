@@ -6,6 +6,7 @@ use mathlib.Core.List.{List, [], _∷_}
 use native.Mathlib.Omega.{arith}
 use lib.ListN.{length, replicate, length-append}
 use lib.Dec.{eqb}
+use lib.IntN.{ℤ}
 use borrow.Author.Tests.{lt-ltb}
 use Rattle.text.specs.Names.{beginsCtd}
 use Rattle.text.specs.Decimals.{Verdict, good}
@@ -14,22 +15,25 @@ use Rattle.text.specs.Reading.{readNumber, readingOf}
 use Rattle.text.specs.Rows.{sizeOf}
 use Rattle.exchange.specs.Places.{Table, Outcome, accepted, refused, outcomeOf}
 use Rattle.exchange.specs.Profiles.{grid}
-use Rattle.exchange.specs.Answers.{found, askedBy, askedOf, cellText, readingBy, readingFor, flaggedBy, flaggedOf}
+use Rattle.exchange.specs.Answers.{kindAt, found, askedBy, askedOf, cellText, readingBy, readingFor, flaggedBy, flaggedOf}
 use Rattle.exchange.specs.Located.{nameAt, flagColumn, hasFlag, flagColumnBy, flagColumnOf}
+use Rattle.laws.proofs.JoinLaws.{All}
 use Rattle.exchange.proofs.AskLaws as ask
 use Rattle.correction.specs.declared.Answer.{Answer}
-use Rattle.correction.specs.declared.Answer.the-variants.{Applied}
+use Rattle.correction.specs.declared.Answer.the-variants.{Applied, Refused}
 use Rattle.correction.specs.Texts.{numberText, flagText, atRight}
-use Rattle.correction.specs.Corrections.{Order, answerOf, correctedOf}
-use Rattle.correction.specs.Demand3.{measurementOf, flagIs, ReadsAs}
+use Rattle.correction.specs.declared.Order.{Order}
+use Rattle.correction.specs.Corrections.{Entry, entry, entriesOf, answerOf, correctedOf}
+use Rattle.correction.specs.Demand3.{Measurement, measurementOf, flagIs, ReadsAs}
+use Rattle.correction.proofs.TestLaws.{not-applied}
 use Rattle.correction.proofs.TextLaws.{number-judged, number-signed, flag-judged}
 use Rattle.correction.proofs.GeometryLaws.{Grid, Shape, shape, cellIn, cell-row, widthAt, width-cell}
-use Rattle.correction.proofs.PutLaws.{Put, puts, Stands, stands-kept}
-use Rattle.correction.proofs.PlanLaws.{cellColumns, lineOf, decide, answer-view, not-applied, tests-kept, writesTo, writes, ifApplied, plan}
+use Rattle.correction.proofs.PutLaws.{Put, puts, AllApart, Stands, stands-kept}
+use Rattle.correction.proofs.PlanLaws.{lineOf, decideIn, decide, answer-view, putOf, writesTo, all-writes, writes-all, writes, ifApplied, Part, planBy}
 use Rattle.correction.proofs.ColumnLaws.{FlagOf, flag-of}
 use Rattle.correction.proofs.FitLaws as fit
-use Rattle.correction.proofs.KeepsLaws.{planOf, keeps, done, answer-kept, plan-kept}
-use Rattle.correction.proofs.PairLaws.{Differ, plans-apart, plan-distinct}
+use Rattle.correction.proofs.KeepsLaws.{partOf, planOf, keeps, done, answer-kept, part-kept}
+use Rattle.correction.proofs.PartLaws.{valuePart, plan-distinct}
 
 -- a cell that holds a text of its own width is not empty
 flag-wide : (w v : ℕ) → length (atRight w (flagText v)) ≡ w → 1 ≤ w
@@ -47,17 +51,18 @@ module _ (f : List ℕ) (t : Table) (n : ℕ) (e : outcomeOf f ≡ accepted t n)
   unfolding askedOf
   asked-found c h l = ap (askedBy (o .row) c) e ∙ ask.asked-inside (o .row) n c t (record { row = a .row; rows = a .rows; column = h; columns = l })
 
-  value-reads : cellIn (grid f) (lineOf t o) (o .column - 1) ≡ atRight (widthAt (shape (grid f)) (lineOf t o) (o .column - 1)) (numberText (o .millionths) (o .decimals))
-      → readingFor f (o .row) (o .column) ≡ readNumber (o .millionths)
+  -- a number that stands in a measured column
+  number-reads : (j : ℕ) (m : ℤ) (d : ℕ) → 1 ≤ j → j ≤ length (t .names) → kindAt t j ≡ 0 → fit.NumberAsked (shape (grid f)) (lineOf t o) j m d
+      → cellIn (grid f) (lineOf t o) (j - 1) ≡ atRight (widthAt (shape (grid f)) (lineOf t o) (j - 1)) (numberText m d) → readingFor f (o .row) j ≡ readNumber m
   unfolding readingFor readingOf kindOf
-  value-reads s =
-      let w : ℕ = widthAt (shape (grid f)) (lineOf t o) (o .column - 1) in
-      let x : cellText t f (o .row) (o .column) ≡ atRight w (numberText (o .millionths) (o .decimals)) = sym (cell-row (grid f) (lineOf t o) (o .column - 1)) ∙ s in
-      ap (readingBy f (o .row) (o .column)) (asked-found (o .column) (a .col) (a .cols))
-      ∙ ap (λ (k : ℕ). readingOf k (judgedOf 0 (judge (kindOf k) (cellText t f (o .row) (o .column))))) (a .measured .kind)
+  number-reads j m d h l k v s =
+      let w : ℕ = widthAt (shape (grid f)) (lineOf t o) (j - 1) in
+      let x : cellText t f (o .row) j ≡ atRight w (numberText m d) = sym (cell-row (grid f) (lineOf t o) (j - 1)) ∙ s in
+      ap (readingBy f (o .row) j) (asked-found j h l)
+      ∙ ap (λ (k : ℕ). readingOf k (judgedOf 0 (judge (kindOf k) (cellText t f (o .row) j)))) k
       ∙ ap (λ (y : List ℕ). readingOf 0 (judgedOf 0 (judge (kindOf 0) y))) x
-      ∙ ap (λ (v : Verdict). readingOf 0 (judgedOf 0 v)) (number-judged (o .millionths) (o .decimals) w (a .number) (a .fits))
-      ∙ ap readNumber (number-signed (o .millionths) (a .number .small))
+      ∙ ap (λ (v : Verdict). readingOf 0 (judgedOf 0 v)) (number-judged m d w (v .number) (v .fits))
+      ∙ ap readNumber (number-signed m (v .number .small))
 
   flag-reads : (j : ℕ) → FlagOf t (o .column) j → hasFlag t (o .column) ≡ true
       → cellIn (grid f) (lineOf t o) (j - 1) ≡ atRight (widthAt (shape (grid f)) (lineOf t o) (j - 1)) (flagText (o .flag)) → flaggedOf f (o .row) j ≡ flagIs (o .flag)
@@ -71,50 +76,81 @@ module _ (f : List ℕ) (t : Table) (n : ℕ) (e : outcomeOf f ≡ accepted t n)
       ∙ ap (λ (k : ℕ). cond (eqb k 4 || eqb k 5) (flagIs (sizeOf (judge (kindOf k) (cellText t f (o .row) j)))) (record { number = 22; line = 0; column = 0; flag = 0 })) (q .kind)
       ∙ flag-read ctd (cellText t f (o .row) j) (o .flag) (ap (judge (kindOf (cond ctd 5 4))) x ∙ flag-judged ctd (o .flag) w (a .flag h) some)
 
-  stands-read : Stands (grid f) (writes (accepted t n) (shape (grid f)) o) → ReadsAs f (measurementOf f o) o
-  unfolding cellColumns writesTo
-  stands-read s = record { value = value-reads (s .0); flag = λ h. rw column-is (go (hasFlag t (o .column)) refl (rw column-is at h) (s .1)) }
+  stands-read : Stands (grid f) (writesTo (shape (grid f)) (lineOf t o) (valuePart t o)) → ReadsAs f (measurementOf f o) o
+  unfolding writesTo
+  stands-read s = record {
+    value = number-reads (o .column) (o .millionths) (o .decimals) (a .col) (a .cols) (a .measured .kind) (a .value) (s .0);
+    flag = λ h. rw column-is (go (hasFlag t (o .column)) refl (rw column-is at h) (s .1));
+  }
     where
       column-is : flagColumnOf f (o .column) ≡ flagColumn t (o .column)
       column-is = ap (flagColumnBy (o .column)) e
 
       go : (b : Bool) → hasFlag t (o .column) ≡ b → 0 < flagColumn t (o .column)
-          → Stands (grid f) (writesTo (shape (grid f)) (lineOf t o) (cond b ((flagColumn t (o .column) - 1) ∷ []) []) (flagText (o .flag) ∷ []))
+          → Stands (grid f) (writesTo (shape (grid f)) (lineOf t o) (cond b (entry (flagColumn t (o .column)) (flagText (o .flag)) ∷ []) []))
           → flaggedOf f (o .row) (flagColumn t (o .column)) ≡ flagIs (o .flag)
       go true q h s = flag-reads (flagColumn t (o .column)) (flag-of t (o .column) (a .measured .in-line) q) q (s .0)
       go false q h s = let z : _≡_ {A = ℕ} 0 1 = cc (lt-ltb 0 (flagColumn t (o .column)) h) in absurd (omega arith)
 
--- ---- a correction was applied and its cells still stand
-pub record Set (f : List ℕ) (o : Order) : Type 0 where
+-- ---- a correction was applied and a part of its cells still stands
+pub record Set (es : Part) (f : List ℕ) (o : Order) : Type 0 where
   pub was : answerOf f o ≡ Applied
-  pub stands : Stands (grid f) (planOf f o)
+  pub stands : Stands (grid f) (partOf es f o)
 
-pub set-reads : (f : List ℕ) (o : Order) → Set f o → ReadsAs f (measurementOf f o) o
-unfolding plan
-set-reads f o s = go (outcomeOf f) refl (sym (answer-view f o) ∙ s .was) (s .stands)
+module _ (es : Part) (P : List ℕ → Measurement → Order → Type 0) (f : List ℕ) (o : Order) (s : Set es f o)
+    (reads : (t : Table) (n : ℕ) → outcomeOf f ≡ accepted t n → fit.Asked t n (shape (grid f)) o → Stands (grid f) (writesTo (shape (grid f)) (lineOf t o) (es t o)) → P f (measurementOf f o) o) where
+  part-reads : P f (measurementOf f o) o
+  unfolding planBy
+  part-reads = go (outcomeOf f) refl (sym (answer-view f o) ∙ s .was) (s .stands)
+    where
+      sh : Shape
+      sh = shape (grid f)
+
+      go : (p : Outcome) → outcomeOf f ≡ p → decide p sh o ≡ Applied → Stands (grid f) (planBy es p sh o) → P f (measurementOf f o) o
+      go (refused x y z) e d w = absurd (not-applied x y z d)
+      go (accepted t n) e d w = reads t n e (fit.applied-asked t n sh o d) (subst (λ (x : Answer). Stands (grid f) (ifApplied x (writes es (accepted t n) sh o))) d w)
+
+pub set-reads : (f : List ℕ) (o : Order) → Set valuePart f o → ReadsAs f (measurementOf f o) o
+set-reads f o s = part-reads valuePart ReadsAs f o s (λ t n e a w. stands-read f t n e o a w)
+
+-- what o put stands after q as it does with its puts
+stands-after : (es : Part) (f : List ℕ) (o q : Order) → Stands (puts (grid f) (planOf f q)) (partOf es f o) → Stands (grid (correctedOf f q)) (partOf es (correctedOf f q) o)
+stands-after es f o q s =
+    subst (λ (ws : List Put). Stands (grid (correctedOf f q)) ws) (sym (part-kept es f q o))
+    (subst (λ (g : Grid). Stands g (partOf es f o)) (sym (keeps f q .cells)) s)
+
+-- all entries of a part are among the correction's
+abbrev pub IsPart : Part → Type 1
+IsPart es = (P : Entry → Type 0) (t : Table) (o : Order) → All P (entriesOf t o) → All P (es t o)
+
+part-stands : (es : Part) → IsPart es → (f : List ℕ) (o : Order) (g : Grid) → Stands g (planOf f o) → Stands g (partOf es f o)
+unfolding planBy
+part-stands es sub f o g s = go (outcomeOf f) s
   where
     sh : Shape
     sh = shape (grid f)
 
-    go : (p : Outcome) → outcomeOf f ≡ p → decide p sh o ≡ Applied → Stands (grid f) (plan p sh o) → ReadsAs f (measurementOf f o) o
-    go (refused x y z) e d s = absurd (not-applied x y z d)
-    go (accepted t n) e d s =
-        stands-read f t n e o (fit.asked t n sh o (tests-kept t n sh o d)) (subst (λ (x : Answer). Stands (grid f) (ifApplied x (writes (accepted t n) sh o))) d s)
+    Holds : Put → Type 0
+    Holds w = cellIn g (w .line) (w .col) ≡ w .text
 
--- the cells of o stand after q as they do with its puts
-stands-after : (f : List ℕ) (o q : Order) → Stands (puts (grid f) (planOf f q)) (planOf f o) → Stands (grid (correctedOf f q)) (planOf (correctedOf f q) o)
-stands-after f o q s =
-    subst (λ (ws : List Put). Stands (grid (correctedOf f q)) ws) (sym (plan-kept f q o))
-    (subst (λ (g : Grid). Stands g (planOf f o)) (sym (keeps f q .cells)) s)
+    at : (t : Table) (n : ℕ) (x : Answer) → Stands g (ifApplied x (writes entriesOf (accepted t n) sh o)) → Stands g (ifApplied x (writes es (accepted t n) sh o))
+    at t n (Refused x y z) s = tt
+    at t n Applied s =
+        let l : ℕ = lineOf t o in
+        all-writes (λ (e : Entry). Holds (putOf sh l e)) Holds sh l (es t o) (λ e h. h) (sub (λ (e : Entry). Holds (putOf sh l e)) t o (writes-all Holds sh l (entriesOf t o) s))
 
-pub set-now : (f : List ℕ) (o : Order) → answerOf f o ≡ Applied → Set (correctedOf f o) o
-set-now f o e = record {
+    go : (p : Outcome) → Stands g (planBy entriesOf p sh o) → Stands g (planBy es p sh o)
+    go (refused x y z) s = tt
+    go (accepted t n) s = at t n (decideIn t n sh o) s
+
+pub set-now : (es : Part) → IsPart es → (f : List ℕ) (o : Order) → answerOf f o ≡ Applied → Set es (correctedOf f o) o
+set-now es sub f o e = record {
   was = answer-kept f o o ∙ e;
-  stands = stands-after f o o (done f o (keeps f o .fit) .stands (plan-distinct (outcomeOf f) (shape (grid f)) o));
+  stands = stands-after es f o o (part-stands es sub f o (puts (grid f) (planOf f o)) (done f o (keeps f o .fit) .stands (plan-distinct f o)));
 }
 
-pub set-on : (f : List ℕ) (o q : Order) → Differ o q → Set f o → Set (correctedOf f q) o
-set-on f o q df s = record {
+pub set-on : (es : Part) (f : List ℕ) (o q : Order) → AllApart (partOf es f o) (planOf f q) → Set es f o → Set es (correctedOf f q) o
+set-on es f o q a s = record {
   was = answer-kept f q o ∙ s .was;
-  stands = stands-after f o q (stands-kept (planOf f o) (planOf f q) (grid f) (plans-apart f o q df) (s .stands));
+  stands = stands-after es f o q (stands-kept (partOf es f o) (planOf f q) (grid f) a (s .stands));
 }

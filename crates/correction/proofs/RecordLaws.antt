@@ -26,33 +26,31 @@ use Rattle.exchange.proofs.NameLaws.{place-name}
 use Rattle.laws.proofs.JoinLaws.{All}
 use Rattle.correction.specs.declared.Answer.{Answer}
 use Rattle.correction.specs.declared.Answer.the-variants.{Applied, Refused}
-use Rattle.correction.specs.Corrections.{Order, textsOf, correctedOf}
+use Rattle.correction.specs.declared.Order.{Order}
+use Rattle.correction.specs.Corrections.{entriesOf, correctedOf}
 use Rattle.laws.proofs.MissingLaws.{missing-counted}
 use Rattle.correction.specs.Demand3.{Kept}
 use Rattle.correction.proofs.GeometryLaws.{Grid, Shape, shape, cellIn, cell-row}
 use Rattle.correction.proofs.PutLaws.{Put, Misses, cell-puts-other, map-puts}
-use Rattle.correction.proofs.PlanLaws.{cellColumns, lineOf, decideIn, tests-kept, writesTo, writes, ifApplied, plan}
-use Rattle.correction.proofs.ColumnLaws.{getD-map-in, columns-kinds}
-use Rattle.correction.proofs.FitLaws.{asked}
+use Rattle.correction.proofs.PlanLaws.{lineOf, decideIn, all-writes, writes, ifApplied, planBy, plan}
+use Rattle.correction.proofs.ColumnLaws.{getD-map-in, roles, cell-low}
+use Rattle.correction.proofs.FitLaws.{applied-asked}
 use Rattle.correction.proofs.KeepsLaws.{planOf, keeps, length-kept}
+use Rattle.correction.proofs.PartLaws.{Cell, all-cells}
 
 -- ---- the columns written are of kinds below those of keys, dates and times
 abbrev Low : List ℕ → Put → Type 0
 Low ks w = getD ks (w .col) 0 < 6
 
-writes-low : (ks : List ℕ) (sh : Shape) (l : ℕ) (cs : List ℕ) (xs : List (List ℕ)) → All (λ (i : ℕ). getD ks i 0 < 6) cs → All (Low ks) (writesTo sh l cs xs)
-unfolding writesTo
-writes-low ks sh l [] xs h = tt
-writes-low ks sh l (c ∷ cs) [] h = tt
-writes-low ks sh l (c ∷ cs) (x ∷ xs) h = (h .0, writes-low ks sh l cs xs (h .1))
-
 plan-low : (t : Table) (n : ℕ) (sh : Shape) (o : Order) → All (Low (kindsOf (t .names))) (plan (accepted t n) sh o)
-unfolding plan
+unfolding planBy
 plan-low t n sh o = go (decideIn t n sh o) refl
   where
-    go : (x : Answer) → decideIn t n sh o ≡ x → All (Low (kindsOf (t .names))) (ifApplied x (writes (accepted t n) sh o))
+    go : (x : Answer) → decideIn t n sh o ≡ x → All (Low (kindsOf (t .names))) (ifApplied x (writes entriesOf (accepted t n) sh o))
     go (Refused i j k) e = tt
-    go Applied e = writes-low (kindsOf (t .names)) sh (lineOf t o) (cellColumns t (o .column)) (textsOf o) (columns-kinds t (o .column) (asked t n sh o (tests-kept t n sh o e) .measured))
+    go Applied e =
+        let m = applied-asked t n sh o e .measured in
+        all-writes (Cell t (o .column) 0 roles) (Low (kindsOf (t .names))) sh (lineOf t o) (entriesOf t o) (λ x w. cell-low t (o .column) m (w .role) (x .column) (w .of)) (all-cells t o m)
 
 low-misses : (ks : List ℕ) (ws : List Put) (l c : ℕ) → 6 ≤ getD ks c 0 → All (Low ks) ws → Misses ws l c
 low-misses ks [] l c h a = tt
@@ -191,6 +189,9 @@ pub kept : (f : List ℕ) (o : Order) → Kept f (correctedOf f o)
 unfolding checkedOf profileOf g
 kept f o = record {
   outcome = keeps f o .end;
+  number = ap (λ (p : Outcome). checkedBy (correctedOf f o) p .number) (keeps f o .end) ∙ number-same (outcomeOf f);
+  line = ap (λ (p : Outcome). checkedBy (correctedOf f o) p .line) (keeps f o .end) ∙ line-same (outcomeOf f);
+  column = ap (λ (p : Outcome). checkedBy (correctedOf f o) p .column) (keeps f o .end) ∙ column-same (outcomeOf f);
   kind = ap (λ (p : Outcome). checkedBy (correctedOf f o) p .kind) (keeps f o .end) ∙ kinds-same (outcomeOf f);
   columns = ap (λ (p : Outcome). checkedBy (correctedOf f o) p .columns) (keeps f o .end) ∙ columns-same (outcomeOf f);
   rows = ap (λ (p : Outcome). checkedBy (correctedOf f o) p .rows) (keeps f o .end) ∙ rows-same (outcomeOf f);
@@ -200,6 +201,18 @@ kept f o = record {
   long = length-kept f o;
 }
   where
+    number-same : (p : Outcome) → checkedBy (correctedOf f o) p .number ≡ checkedBy f p .number
+    number-same (accepted t n) = refl
+    number-same (refused x y z) = refl
+
+    line-same : (p : Outcome) → checkedBy (correctedOf f o) p .line ≡ checkedBy f p .line
+    line-same (accepted t n) = refl
+    line-same (refused x y z) = refl
+
+    column-same : (p : Outcome) → checkedBy (correctedOf f o) p .column ≡ checkedBy f p .column
+    column-same (accepted t n) = refl
+    column-same (refused x y z) = refl
+
     kinds-same : (p : Outcome) → checkedBy (correctedOf f o) p .kind ≡ checkedBy f p .kind
     kinds-same (accepted t n) = refl
     kinds-same (refused x y z) = refl

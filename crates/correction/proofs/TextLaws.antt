@@ -19,7 +19,7 @@ use Rattle.text.proofs.ScanLaws.{digit-yes, digit-range}
 use Rattle.text.proofs.SpaceLaws.{isSolid, trim-solid, trim-pad-front}
 use Rattle.correction.specs.Texts.{size, isBelow, lastDigits, wholeText, fractionText, signText, numberText, flagText, atRight}
 use Rattle.correction.specs.Corrections.{inSet}
-use Rattle.correction.specs.WriteWords.{textOf}
+use Rattle.correction.specs.Inner.Writing.{textOf}
 use Rattle.correction.proofs.DigitLaws.{every-append, every-one, every-after, every-from, numeral-append, last-length, last-digits, last-numeral, whole-digits, whole-some, whole-length, whole-numeral}
 
 -- ---- at the right of a cell

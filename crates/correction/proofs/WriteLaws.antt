@@ -15,8 +15,8 @@ use mir.ValLaws.{toZ-ofZ}
 use borrow.Author.Tests.{ne-eqb}
 use Rattle.text.specs.declared.Span.{Span}
 use Rattle.correction.specs.Texts.{size, isBelow, lastDigits, wholeText, fractionText, signText, numberText, atRight}
-use Rattle.correction.specs.Corrections.{patch, filled}
-use Rattle.correction.specs.WriteWords.{textOf, Room, Put, InCell}
+use Rattle.correction.specs.Corrections.{patch, fill, filled}
+use Rattle.correction.specs.Inner.Writing.{textOf, Room, Put, InCell}
 use Rattle.correction.proofs.DigitLaws.{last-length, whole-last}
 use Rattle.correction.proofs.SizeLaws.{below-is}
 use Rattle.correction.proofs.TextLaws.{atRight-length}
@@ -197,7 +197,7 @@ module _ {f t : List ℕ} {p : Span} (c : InCell f p t) where
 
 -- a number by the code's sign and size
 module _ (m : ℤ) (d n : ℕ) (s : SFits w64 m) (e : n ≡ size (toZ w64 (ofZ w64 m))) where
-  number-as : textOf (ltZ (toZ w64 (ofZ w64 m)) (pos 0)) n d ≡ numberText m d
+  pub number-as : textOf (ltZ (toZ w64 (ofZ w64 m)) (pos 0)) n d ≡ numberText m d
   unfolding numberText
   number-as = rw (below-is m s) (ap (λ (j : ℕ). textOf (isBelow m) j d) (e ∙ ap size (toZ-ofZ w64 m s)))
 
@@ -210,10 +210,10 @@ module _ (m : ℤ) (d n : ℕ) (s : SFits w64 m) (e : n ≡ size (toZ w64 (ofZ w
 
 -- the cells of a measurement filled, with its flag and without
 module _ (f : List ℕ) (p q : Span) (b : Bool) (t u : List ℕ) where
-  pub filled-both : {g h : List ℕ} → b ≡ true → g ≡ patch f (p .start) (atRight (p .len) t) → h ≡ patch g (q .start) (atRight (q .len) u) → h ≡ filled (p ∷ cond b (q ∷ []) []) (t ∷ u ∷ []) f
+  pub filled-both : {g h : List ℕ} → b ≡ true → g ≡ patch f (p .start) (atRight (p .len) t) → h ≡ patch g (q .start) (atRight (q .len) u) → h ≡ filled (fill p t ∷ cond b (fill q u ∷ []) []) f
   unfolding filled
   filled-both {g} {h} e x y = rw e (y ∙ ap (λ (z : List ℕ). patch z (q .start) (atRight (q .len) u)) x)
 
-  pub filled-value : {g : List ℕ} → b ≡ false → g ≡ patch f (p .start) (atRight (p .len) t) → g ≡ filled (p ∷ cond b (q ∷ []) []) (t ∷ u ∷ []) f
+  pub filled-value : {g : List ℕ} → b ≡ false → g ≡ patch f (p .start) (atRight (p .len) t) → g ≡ filled (fill p t ∷ cond b (fill q u ∷ []) []) f
   unfolding filled
   filled-value {g} e x = rw e x

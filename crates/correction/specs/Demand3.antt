@@ -13,13 +13,13 @@ use Rattle.text.specs.Reading.{readNumber}
 use Rattle.exchange.specs.declared.Flagged.{Flagged}
 use Rattle.exchange.specs.Places.{Table, accepted, refused, outcomeOf}
 use Rattle.exchange.specs.Answers.{checkedOf, readingFor, flaggedOf}
-use Rattle.exchange.specs.Located.{isMeasured, flagColumnOf, cellsOf}
+use Rattle.exchange.specs.Located.{flagColumnOf, cellsOf}
 use Rattle.exchange.specs.Records.{profileOf}
 use Rattle.laws.specs.Promises.{missingPairs}
+use Rattle.correction.specs.declared.Order.{Order}
 use Rattle.correction.specs.declared.Answer.{Answer}
 use Rattle.correction.specs.declared.Answer.the-variants.{Applied, Refused}
-use Rattle.correction.specs.Texts.{atRight}
-use Rattle.correction.specs.Corrections.{Order, isThere, badNumber, badFlag, tooLong, Test, testsOf, textAt, ownTexts, answerOf, textsOf, filled, correctedOf}
+use Rattle.correction.specs.Corrections.{Test, testsOf, textAt, ownText, answerOf, Fill, fillsOf, filledText, correctedOf}
 
 -- ---- a correction names the measurement at the row and column it gives, whether the file has them or not
 pub record Measurement : Type 0 where
@@ -52,30 +52,27 @@ pub data IsFirst : List Test → Answer → Type 0 where
   here : {x : Test} {xs : List Test} → x .holds ≡ true → IsFirst (x ∷ xs) (Refused (x .number) 0 0)
   later : {x : Test} {xs : List Test} {a : Answer} → x .holds ≡ false → IsFirst xs a → IsFirst (x ∷ xs) a
 
--- the check accepts, row and column exist, the column is measured, and 23, 24 and 25 do not hold
+-- none of the tests holds
+abbrev pub NoneHolds : List Test → Type 0
+NoneHolds [] = Unit {0}
+NoneHolds (x ∷ xs) = (x .holds ≡ false) × NoneHolds xs
+
+-- the check accepts, and none of the tests 21 to 25 holds
 pub record MayApply (f : List ℕ) (o : Order) : Type 0 where
   pub table : Table
   pub rows : ℕ
   pub accepts : outcomeOf f ≡ accepted table rows
-  pub there : isThere table rows o ≡ true
-  pub measured : isMeasured table (o .column) ≡ true
-  pub number : badNumber o ≡ false
-  pub flag : badFlag table o ≡ false
-  pub fits : tooLong (ownTexts table f o) o ≡ false
-
--- each text at the right of its cell
-unfoldable pub setAtRight : List Span → List (List ℕ) → List (List ℕ)
-setAtRight [] ts = []
-setAtRight (p ∷ ps) [] = []
-setAtRight (p ∷ ps) (t ∷ ts) = atRight (p .len) t ∷ setAtRight ps ts
+  pub passes : NoneHolds (testsOf table rows (ownText table f o) o)
 
 pub record Exactly (f : List ℕ) (o : Order) : Type 0 where
   pub only : answerOf f o ≡ Applied → MayApply f o
   pub always : MayApply f o → answerOf f o ≡ Applied
   pub file : (a b c : ℕ) → outcomeOf f ≡ refused a b c → answerOf f o ≡ Refused a b c
-  pub first : (t : Table) (n : ℕ) → outcomeOf f ≡ accepted t n → IsFirst (testsOf t n (ownTexts t f o) o) (answerOf f o)
+  pub first : (t : Table) (n : ℕ) → outcomeOf f ≡ accepted t n → IsFirst (testsOf t n (ownText t f o) o) (answerOf f o)
   pub unchanged : (a b c : ℕ) → answerOf f o ≡ Refused a b c → correctedOf f o ≡ f
-  pub fills : answerOf f o ≡ Applied → map (textAt (correctedOf f o)) (cellsOf f (o .row) (o .column)) ≡ setAtRight (cellsOf f (o .row) (o .column)) (textsOf o)
+  -- what it fills are the measurement's cells, with each text at the right of its cell
+  pub cells : map (λ (x : Fill). x .place) (fillsOf f o) ≡ cellsOf f (o .row) (o .column)
+  pub fills : answerOf f o ≡ Applied → map (λ (x : Fill). textAt (correctedOf f o) (x .place)) (fillsOf f o) ≡ map filledText (fillsOf f o)
 
 -- the answers, one for each correction of the list
 abbrev pub EachExactly : List ℕ → List Order → List Answer → Type 0
@@ -85,21 +82,28 @@ EachExactly f (o ∷ os) [] = ⊥
 EachExactly f (o ∷ os) (a ∷ rest) = (a ≡ answerOf f o) × Exactly f o × EachExactly (correctedOf f o) os rest
 
 -- ---- every measurement set by an applied correction reads as the last one applied to it ordered
--- the last correction of the list that names m and is applied
 abbrev pub names : List ℕ → Order → Measurement → Bool
 names f o m = eqb (o .row) (m .row) && eqb (o .column) (m .column)
 
-abbrev pub ifApplied : Answer → List ℕ → Order → Measurement → Option Order
-ifApplied Applied f o m = cond (names f o m) (some o) none
-ifApplied (Refused a b c) f o m = none
+abbrev pub ifApplied : Answer → Bool → Order → Option Order
+ifApplied Applied b o = cond b (some o) none
+ifApplied (Refused x y z) b o = none
 
 abbrev pub orElse : Option Order → Option Order → Option Order
 orElse (some o) x = some o
 orElse none x = x
 
-unfoldable pub lastTo : List ℕ → List Order → Measurement → Option Order
-lastTo f [] m = none
-lastTo f (o ∷ os) m = orElse (lastTo (correctedOf f o) os m) (ifApplied (answerOf f o) f o m)
+-- the last correction of the list that is of a sort, names m and is applied
+unfoldable pub lastThat : (Order → Bool) → List ℕ → List Order → Measurement → Option Order
+lastThat p f [] m = none
+lastThat p f (o ∷ os) m = orElse (lastThat p (correctedOf f o) os m) (ifApplied (answerOf f o) (p o && names f o m) o)
+
+-- of any sort
+abbrev pub any : Order → Bool
+any o = true
+
+abbrev pub lastTo : List ℕ → List Order → Measurement → Option Order
+lastTo f os m = lastThat any f os m
 
 -- reads as ordered: present with the ordered millionths, or missing if -999 was ordered; its flag column, if there is one, gives the ordered flag
 abbrev pub flagIs : ℕ → Flagged
@@ -121,6 +125,9 @@ InNone (p ∷ ps) i = (Within p i → ⊥) × InNone ps i
 -- profile's record stays
 pub record Kept (f g : List ℕ) : Type 0 where
   pub outcome : outcomeOf g ≡ outcomeOf f
+  pub number : checkedOf g .number ≡ checkedOf f .number
+  pub line : checkedOf g .line ≡ checkedOf f .line
+  pub column : checkedOf g .column ≡ checkedOf f .column
   pub kind : checkedOf g .kind ≡ checkedOf f .kind
   pub columns : checkedOf g .columns ≡ checkedOf f .columns
   pub rows : checkedOf g .rows ≡ checkedOf f .rows

@@ -2,7 +2,7 @@
 -- parted by single tabs, no spaces, ended by one line feed; decimals as written. Refusal 26: malformed.
 use Prim.Native.Nat.{ℕ, _+_}
 use mathlib.Core.List.{List, [], _∷_}
-use mathlib.Core.Bool.{Bool, true, false, cond, not, _&&_}
+use mathlib.Core.Bool.{Bool, cond, not, _&&_}
 use lib.ListN.{length, getD}
 use lib.Dec.{eqb}
 use lib.IntN.{ℤ, pos}
@@ -11,7 +11,7 @@ use Rattle.text.specs.Cells.{firstPiece, pieces}
 use Rattle.text.specs.Spaces.{trim}
 use Rattle.text.specs.Names.{isName}
 use Rattle.text.specs.Decimals.{Verdict, blank, wrong, outOfRange, good}
-use Rattle.text.specs.Judge.{kindOf, judge, wholeOf, unlessBlank}
+use Rattle.text.specs.Judge.{measured, judge, wholeOf, unlessBlank}
 use Rattle.text.specs.Reading.{signed}
 use Rattle.text.specs.Rows.{isGood, sizeOf}
 use Rattle.correction.specs.declared.ListLine.{ListLine}
@@ -28,7 +28,7 @@ abbrev pub isRow : List ℕ → Bool
 isRow x = isGood (whole 7 x) && not (eqb (getD x 0 0) 48)
 
 abbrev pub decimalIn : List ℕ → Verdict
-decimalIn x = judge (kindOf 0) x
+decimalIn x = judge measured x
 
 -- the decimal's millionths, and its decimals as written
 abbrev pub millionthsIn : Verdict → ℤ

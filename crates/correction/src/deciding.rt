@@ -1,37 +1,38 @@
 // A correction decided: the file's refusal or 21, then the rules 22 to 25 in number order. Nothing is written here.
 ghost use mathlib.Core.Path.{_≡_};
-ghost use Rattle.correction.specs.Corrections.{orderOf};
-ghost use Rattle.correction.specs.DecideWords.{wrongNumber, wrongFlag, brokenBy, Decides};
+ghost use Rattle.correction.specs.Corrections.{badNumber, wrongFlag};
+ghost use Rattle.correction.specs.Inner.Deciding.{firstNumber, testsAt, Decides};
+use crate::Order;
 use crate::numbers::last_place;
 use crate::numbers::size_of;
 use crate::numbers::text_length;
+use crate::writing::CellPlaces;
 use exchange::Located;
-use text::Span;
+use text::refusals;
 
 // A correction's answer: number, line and column, 0 each where it is applied; the places of the cells to write are then the others.
 pub struct Decision {
     pub number: u64,
     pub line: u64,
     pub column: u64,
-    pub value: Span,
-    pub flagged: bool,
-    pub flag: Span,
+    pub places: CellPlaces,
 }
 
 // The least size, in millionths, that no correction may have.
 const TOO_LARGE: u64 = 1000000000000000;
 
-// Rule 23: a size that can't be written with so many decimals, or not without loss.
-fn wrong_number(size: u64, decimals: u64) -> bool
-    ensures { λ r. ⌜ r ≡ wrongNumber size decimals ⌝ }
+// Rule 23: a number that can't be written with so many decimals, or not without loss.
+fn wrong_number(order: Order) -> bool
+    ensures { λ r. ⌜ r ≡ badNumber order ⌝ }
 {
-    if 6 < decimals {
+    if 6 < order.decimals {
         return true;
     }
+    let size = size_of(order.millionths);
     if TOO_LARGE <= size {
         return true;
     }
-    size % last_place(decimals) != 0
+    size % last_place(order.decimals) != 0
 }
 
 // Rule 24: a flag that is not of its parameter's set, or not 0 where there is no flag column.
@@ -46,56 +47,55 @@ fn wrong_flag(flagged: bool, ctd: bool, flag: u64) -> bool
 }
 
 // The first rule that is broken where row and column are there; 0 where none is.
-fn broken_rule(at: Located, minus: bool, size: u64, decimals: u64, flag: u64) -> u64
-    ensures { λ r. ⌜ r ≡ brokenBy at minus size decimals flag ⌝ }
+fn broken_rule(at: Located, order: Order) -> u64
+    ensures { λ r. ⌜ r ≡ firstNumber (testsAt at order) ⌝ }
 {
     if !at.measured {
-        return 22;
+        return refusals::COLUMN_OF_OTHER_KIND;
     }
-    if wrong_number(size, decimals) {
-        return 23;
+    if wrong_number(order) {
+        return refusals::VALUE_NOT_WRITABLE;
     }
-    if wrong_flag(at.flagged, at.ctd, flag) {
-        return 24;
+    if wrong_flag(at.flagged, at.ctd, order.flag) {
+        return refusals::FLAG_NOT_IN_SET;
     }
     let value = at.value;
-    if value.len < text_length(minus, size, decimals) {
-        return 25;
+    let length = text_length(
+        order.millionths < 0,
+        size_of(order.millionths),
+        order.decimals,
+    );
+    if value.len < length {
+        return refusals::TEXT_TOO_LONG;
     }
     0
 }
 
 // Decides a correction, and leaves the file as it is.
-pub fn decide(
-    file: &[u8],
-    row: u64,
-    column: u64,
-    millionths: i64,
-    decimals: u64,
-    flag: u64,
-) -> Decision
-    ensures { λ r. ⌜ Decides (now (file .entry)) (orderOf row column millionths decimals flag) r ⌝ }
+pub fn decide(file: &[u8], order: Order) -> Decision
+    ensures { λ r. ⌜ Decides (now (file .entry)) order r ⌝ }
 {
-    let at = exchange::locate(file, row, column);
+    let at = exchange::locate(file, order.row, order.column);
     let value = at.value;
-    let cell = at.flag;
+    let flag = at.flag;
+    let places = CellPlaces {
+        value,
+        flagged: at.flagged,
+        flag,
+    };
     if at.number != 0 {
         return Decision {
             number: at.number,
             line: at.line,
             column: at.column,
-            value,
-            flagged: at.flagged,
-            flag: cell,
+            places,
         };
     }
-    let number = broken_rule(at, millionths < 0, size_of(millionths), decimals, flag);
+    let number = broken_rule(at, order);
     Decision {
         number,
         line: 0,
         column: 0,
-        value,
-        flagged: at.flagged,
-        flag: cell,
+        places,
     }
 }

@@ -1,16 +1,26 @@
 // Corrections to an exchange file: one correction made in the lent file, and one line of a correction list.
 ghost use mathlib.Core.Path.{_≡_};
 ghost use Rattle.text.specs.Spaces.{IsPart};
-ghost use Rattle.correction.specs.Corrections.{orderOf, answerOf, correctedOf};
+ghost use Rattle.correction.specs.Corrections.{answerOf, correctedOf};
 ghost use Rattle.correction.specs.ListLines.{lineRead};
 use text::Span;
 
 mod deciding;
-mod lines;
+mod list_lines;
 mod numbers;
 mod writing;
 
 pub use numbers::size_of;
+
+// A correction: the measurement at a row and column, counted from 1, set to so many millionths, written with so many decimals, and to a flag, which is 0
+// where the column has no flag column.
+pub struct Order {
+    pub row: u64,
+    pub column: u64,
+    pub millionths: i64,
+    pub decimals: u64,
+    pub flag: u64,
+}
 
 // A correction's answer.
 pub enum Answer {
@@ -29,18 +39,11 @@ pub struct ListLine {
 }
 
 // Makes one correction in the lent file; a refused one leaves it as it is.
-pub fn correct(
-    file: &mut [u8],
-    row: u64,
-    column: u64,
-    millionths: i64,
-    decimals: u64,
-    flag: u64,
-) -> Answer
-    ensures { λ r. ⌜ r ≡ answerOf (now (file .entry)) (orderOf row column millionths decimals flag) ⌝ }
-    ensures { λ r. ⌜ now (file .exit) ≡ correctedOf (now (file .entry)) (orderOf row column millionths decimals flag) ⌝ }
+pub fn correct(file: &mut [u8], order: Order) -> Answer
+    ensures { λ r. ⌜ r ≡ answerOf (now (file .entry)) order ⌝ }
+    ensures { λ r. ⌜ now (file .exit) ≡ correctedOf (now (file .entry)) order ⌝ }
 {
-    let d = deciding::decide(file, row, column, millionths, decimals, flag);
+    let d = deciding::decide(file, order);
     if d.number != 0 {
         return Answer::Refused {
             number: d.number,
@@ -48,7 +51,8 @@ pub fn correct(
             column: d.column,
         };
     }
-    writing::write(file, d.value, d.flagged, d.flag, millionths, decimals, flag);
+    let places = d.places;
+    writing::write(file, places, order);
     Answer::Applied
 }
 
@@ -56,10 +60,10 @@ pub fn correct(
 pub fn read_line(line: &[u8]) -> ListLine
     ensures { λ r. ⌜ r ≡ lineRead (now (line .entry)) ⌝ }
 {
-    if !lines::is_one_line(line) {
-        return lines::malformed();
+    if !list_lines::is_one_line(line) {
+        return list_lines::malformed();
     }
-    lines::fields_of(line)
+    list_lines::fields_of(line)
 }
 
 // The column name of a list line as a part of the line itself; the empty part at its start where the line is malformed.

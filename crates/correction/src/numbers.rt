@@ -3,7 +3,7 @@ ghost use mathlib.Core.Path.{_≡_};
 ghost use Prim.Native.Nat.{ℕ, _-_, _^_, _≤_};
 ghost use lib.ListN.{length};
 ghost use Rattle.correction.specs.Texts.{size, wholeText, signText, fractionText};
-ghost use Rattle.correction.specs.WriteWords.{textOf};
+ghost use Rattle.correction.specs.Inner.Writing.{textOf};
 
 // The size of a number, the least one's too, which has no positive counterpart.
 pub fn size_of(m: i64) -> u64

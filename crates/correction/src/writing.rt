@@ -2,16 +2,23 @@
 // before `end` and answers where it starts.
 ghost use mathlib.Core.Path.{_≡_};
 ghost use mathlib.Core.List.{[], _∷_};
-ghost use mathlib.Core.Bool.{cond};
 ghost use Prim.Native.Nat.{_-_, _≤_};
 ghost use lib.ListN.{length, replicate};
-ghost use Rattle.correction.specs.Texts.{lastDigits, wholeText, fractionText, signText, numberText, flagText, atRight};
+ghost use Rattle.correction.specs.Texts.{lastDigits, wholeText, fractionText, signText, flagText, atRight};
 ghost use Rattle.correction.specs.Corrections.{patch, filled};
-ghost use Rattle.correction.specs.WriteWords.{textOf, Room, Put, InCell, Writes};
+ghost use Rattle.correction.specs.Inner.Writing.{textOf, Room, Put, InCell, Writes, fillsAt};
+use crate::Order;
 use crate::numbers::digit_count;
 use crate::numbers::last_place;
 use crate::numbers::size_of;
 use text::Span;
+
+// Where a measurement's cells stand, with their spaces: its value's, and its flag's if there is one.
+pub struct CellPlaces {
+    pub value: Span,
+    pub flagged: bool,
+    pub flag: Span,
+}
 
 fn put_byte(file: &mut [u8], end: usize, b: u8) -> usize
     requires { ⌜ Room (now file) end (b ∷ []) ⌝ }
@@ -111,20 +118,20 @@ fn set_flag(file: &mut [u8], cell: Span, digit: u64)
 }
 
 // Writes the cells of a measurement: its value and, if there is one, its flag.
-pub fn write(
-    file: &mut [u8],
-    value: Span,
-    flagged: bool,
-    flag: Span,
-    millionths: i64,
-    decimals: u64,
-    digit: u64,
-)
-    requires { ⌜ Writes (now file) value flagged flag millionths decimals digit ⌝ }
-    ensures { λ _. ⌜ now (file .exit) ≡ filled (value ∷ cond flagged (flag ∷ []) []) (numberText millionths decimals ∷ flagText digit ∷ []) (now (file .entry)) ⌝ }
+pub fn write(file: &mut [u8], places: CellPlaces, order: Order)
+    requires { ⌜ Writes (now file) places order ⌝ }
+    ensures { λ _. ⌜ now (file .exit) ≡ filled (fillsAt places order) (now (file .entry)) ⌝ }
 {
-    set_number(file, value, millionths < 0, size_of(millionths), decimals);
-    if flagged {
-        set_flag(file, flag, digit);
+    let value = places.value;
+    set_number(
+        file,
+        value,
+        order.millionths < 0,
+        size_of(order.millionths),
+        order.decimals,
+    );
+    if places.flagged {
+        let flag = places.flag;
+        set_flag(file, flag, order.flag);
     }
 }

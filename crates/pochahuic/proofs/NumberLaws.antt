@@ -13,10 +13,11 @@ use Rattle.exchange.specs.declared.Flagged.{Flagged}
 use Rattle.exchange.specs.declared.CastTime.{CastTime}
 use Rattle.exchange.specs.declared.CastTime.the-variants.{Given, Missing as Untimed}
 use Rattle.exchange.specs.declared.ProfileRecord.{ProfileRecord}
+use Rattle.correction.specs.declared.Order.{Order}
 use Rattle.correction.specs.declared.Answer.{Answer}
 use Rattle.correction.specs.declared.Answer.the-variants.{Applied, Refused as Denied}
 use Rattle.correction.specs.declared.ListLine.{ListLine}
-use Rattle.correction.specs.Corrections.{Order, orderOf, answerOf, correctedOf, numbersOf}
+use Rattle.correction.specs.Corrections.{orderOf, answerOf, correctedOf, numbersOf}
 use Rattle.pochahuic.specs.Numbers.{kindNumber, checkNumbers, placeNumbers, readingCase, millionthsOf, valueOf, refusalOf, flagNumbers, timeNumbers, profileNumbers, answerNumber, lineNumbers}
 
 pub check-answered : (x y : Checked) → x ≡ y → (k : ℕ) → k ≡ kindNumber (x .kind)

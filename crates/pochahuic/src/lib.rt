@@ -7,6 +7,7 @@ ghost use Rattle.correction.specs.Corrections.{orderOf, answerOf, correctedOf, 
 ghost use Rattle.correction.specs.ListLines.{lineRead};
 ghost use Rattle.pochahuic.specs.Numbers.{kindNumber, checkNumbers, placeNumbers, readingCase, millionthsOf, valueOf, refusalOf, flagNumbers, timeNumbers, profileNumbers, answerNumber, lineNumbers};
 use correction::Answer;
+use correction::Order;
 use exchange::CastTime;
 use exchange::FileKind;
 use text::Reading;
@@ -196,7 +197,14 @@ pub extern "C" fn pochahuic_correct(
     ensures { λ _. ⌜ now (file .exit) ≡ correctedOf (now (file .entry)) (orderOf row column millionths decimals flag) ⌝ }
     ensures { λ _. ⌜ now (out .exit) ≡ numbersOf (answerOf (now (file .entry)) (orderOf row column millionths decimals flag)) ⌝ }
 {
-    let a = correction::correct(file, row, column, millionths, decimals, flag);
+    let order = Order {
+        row,
+        column,
+        millionths,
+        decimals,
+        flag,
+    };
+    let a = correction::correct(file, order);
     match a {
         Answer::Applied => {
             *out = [0, 0, 0];

@@ -5,6 +5,7 @@ use crate::request::call_of;
 use crate::request::number_in;
 use crate::request::signed_in;
 use correction::Answer;
+use correction::Order;
 use exchange::CastTime;
 use exchange::FileKind;
 use listing::put;
@@ -147,15 +148,14 @@ fn answer_correct(
     out: &mut [u8],
     from: usize,
 ) -> usize {
-    let millionths = signed_in(head, 3);
-    let given = correction::correct(
-        file,
-        number_in(head, 1),
-        number_in(head, 2),
-        millionths,
-        number_in(head, 4),
-        number_in(head, 5),
-    );
+    let order = Order {
+        row: number_in(head, 1),
+        column: number_in(head, 2),
+        millionths: signed_in(head, 3),
+        decimals: number_in(head, 4),
+        flag: number_in(head, 5),
+    };
+    let given = correction::correct(file, order);
     match given {
         Answer::Applied => put_applied(file, table, out, from),
         Answer::Refused {

@@ -1,5 +1,4 @@
 use borrow.Author.Needs.{needs}
-use Rattle.correction.specs.Corrections.{orderOf}
 use Rattle.correction.proofs.CorrectLaws.{correct-refused, correct-applied}
 use Rattle.correction.proofs.correct.Statement.{statement}
 use Rattle.correction.proofs.correct.Tie as tie
@@ -11,23 +10,16 @@ same-length : tie.Need-same-length
 same-length c = search needs
 
 returns : tie.Need-returns
-returns c =
-    let s = c .before .before .before .before .before in
-    let a = s .args in
-    correct-refused (orderOf (a .row) (a .column) (a .millionths) (a .decimals) (a .flag)) (s .fits .millionths) (c .before .before .decide .ensures) (c .if1 .taken)
+returns c = correct-refused (c .before .before .decide .ensures) (c .if1 .taken)
 
 write-requires : tie.Need-write-requires
-write-requires c κs = c .before .before .before .decide .ensures .applied (c .before .if1 .left) .writes
+write-requires c κs = c .before .before .before .before .decide .ensures .applied (c .before .before .if1 .left) .writes
 
 same-length-2 : tie.Need-same-length-2
 same-length-2 c = search needs
 
 returns-2 : tie.Need-returns-2
-returns-2 c =
-    let s = c .before .before .before .before .before .before .before .before .before in
-    let a = s .args in
-    correct-applied (orderOf (a .row) (a .column) (a .millionths) (a .decimals) (a .flag)) (s .fits .millionths) (c .before .before .before .before .before .before .decide .ensures) (c .before .before .before .before .if1 .left)
-    (c .before .before .write .ensures)
+returns-2 c = correct-applied (c .before .before .before .before .before .before .before .decide .ensures) (c .before .before .before .before .before .if1 .left) (c .before .before .write .ensures)
 
 pub correct-spec : {M : Type 1} → statement M
 correct-spec =

@@ -8,33 +8,37 @@ size-of-requires c κs = search needs
 
 set-number-requires : tie.Need-set-number-requires
 set-number-requires c κs =
-    let s = c .before .before .before in
-    (s .pre .few, number-cell (s .args .millionths) (s .args .decimals) (c .size-of .result) (s .fits .millionths) (c .size-of .ensures) (s .pre .number))
+    let s = c .before .before .before .before .before .before .before in
+    let o = s .args .order in
+    (s .pre .few, number-cell (o .millionths) (o .decimals) (c .size-of .result) (record { sfits = c .before .struct-told2 .given .1 .1 .0 .1 }) (c .size-of .ensures) (s .pre .number))
 
 set-flag-requires : tie.Need-set-flag-requires
 set-flag-requires c κs =
-    let s = c .before .before .before .before .before .before .before .before in
-    let n = number-set (s .args .millionths) (s .args .decimals) (c .before .before .before .before .before .size-of .result) (s .fits .millionths) (c .before .before .before .before .before .size-of .ensures) (s .args .file .now) (s .args .value) (c .before .before .before .before .set-number .ensures) in
-    let d = s .pre .digit (c .before .if1 .taken) in
-    (d .0, cell-after (s .pre .number) (s .args .flag) n (d .1))
+    let s = c .before .before .before .before .before .before .before .before .before .before .before .before .before in
+    let o = s .args .order in
+    let n = number-set (o .millionths) (o .decimals) (c .before .before .before .before .before .before .size-of .result) (record { sfits = c .before .before .before .before .before .before .before .struct-told2 .given .1 .1 .0 .1 }) (c .before .before .before .before .before .before .size-of .ensures) (s .args .file .now) (s .args .places .value) (c .before .before .before .before .before .set-number .ensures) in
+    let d = s .pre .digit (c .before .before .if1 .taken) in
+    (d .0, cell-after (s .pre .number) (s .args .places .flag) n (d .1))
 
 same-length : tie.Need-same-length
 same-length c = search needs
 
 returns : tie.Need-returns
 returns c =
-    let s = c .before .before .before .before .before .before .before .before .before .before .before in
-    let n = number-set (s .args .millionths) (s .args .decimals) (c .before .before .before .before .before .before .before .before .size-of .result) (s .fits .millionths) (c .before .before .before .before .before .before .before .before .size-of .ensures) (s .args .file .now) (s .args .value) (c .before .before .before .before .before .before .before .set-number .ensures) in
-    filled-both (s .args .file .now) (s .args .value) (s .args .flag) (s .args .flagged) _ _ (c .before .before .before .before .if1 .taken) n (c .before .before .set-flag .ensures)
+    let s = c .before .before .before .before .before .before .before .before .before .before .before .before .before .before .before .before in
+    let o = s .args .order in
+    let n = number-set (o .millionths) (o .decimals) (c .before .before .before .before .before .before .before .before .before .size-of .result) (record { sfits = c .before .before .before .before .before .before .before .before .before .before .struct-told2 .given .1 .1 .0 .1 }) (c .before .before .before .before .before .before .before .before .before .size-of .ensures) (s .args .file .now) (s .args .places .value) (c .before .before .before .before .before .before .before .before .set-number .ensures) in
+    filled-both (s .args .file .now) (s .args .places .value) (s .args .places .flag) (s .args .places .flagged) _ _ (c .before .before .before .before .before .if1 .taken) n (c .before .before .set-flag .ensures)
 
 same-length-2 : tie.Need-same-length-2
 same-length-2 c = search needs
 
 returns-2 : tie.Need-returns-2
 returns-2 c =
-    let s = c .before .before .before .before .before .before .before in
-    let n = number-set (s .args .millionths) (s .args .decimals) (c .before .before .before .before .size-of .result) (s .fits .millionths) (c .before .before .before .before .size-of .ensures) (s .args .file .now) (s .args .value) (c .before .before .before .set-number .ensures) in
-    filled-value (s .args .file .now) (s .args .value) (s .args .flag) (s .args .flagged) _ _ (c .if1 .left) n
+    let s = c .before .before .before .before .before .before .before .before .before .before .before in
+    let o = s .args .order in
+    let n = number-set (o .millionths) (o .decimals) (c .before .before .before .before .size-of .result) (record { sfits = c .before .before .before .before .before .struct-told2 .given .1 .1 .0 .1 }) (c .before .before .before .before .size-of .ensures) (s .args .file .now) (s .args .places .value) (c .before .before .before .set-number .ensures) in
+    filled-value (s .args .file .now) (s .args .places .value) (s .args .places .flag) (s .args .places .flagged) _ _ (c .if1 .left) n
 
 pub write-spec : {M : Type 1} → statement M
 write-spec =

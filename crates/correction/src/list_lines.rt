@@ -8,17 +8,17 @@ ghost use Rattle.correction.specs.ListLines.{isOneLine, byFields};
 ghost use Rattle.correction.specs.ListLines as spec;
 use crate::ListLine;
 use text::Span;
+use text::kinds;
+use text::refusals;
 
-// What parts the fields, and the kind of text whose bytes are not looked at.
-const TAB: u8 = 9;
-
-const FREE: u8 = 11;
+// What parts the fields.
+const TAB: u8 = b'\t';
 
 pub fn malformed() -> ListLine
     ensures { λ r. ⌜ r ≡ spec.malformed ⌝ }
 {
     ListLine {
-        number: 26,
+        number: refusals::MALFORMED_LIST_LINE,
         row: 0,
         name: Span { start: 0, len: 0 },
         millionths: 0,
@@ -33,10 +33,10 @@ pub fn is_one_line(line: &[u8]) -> bool
 {
     let mut i = 0;
     while i < line.len() {
-        if line[i] == 32 {
+        if line[i] == b' ' {
             return false;
         }
-        if line[i] == 10 {
+        if line[i] == b'\n' {
             return i + 1 == line.len();
         }
         i += 1;
@@ -59,11 +59,11 @@ pub fn fields_of(line: &[u8]) -> ListLine
     let e = line.len() - 1;
     let row = text::whole(line, 0, e, TAB, 7);
     let start = after(row.at, e);
-    let name = text::judge(line, start, e, TAB, FREE);
+    let name = text::judge(line, start, e, TAB, kinds::FREE);
     let end = name.at;
-    let value = text::judge(line, after(end, e), e, TAB, 0);
+    let value = text::judge(line, after(end, e), e, TAB, kinds::MEASURED);
     let flag = text::whole(line, after(value.at, e), e, TAB, 1);
-    let is_row = (row.number == 0) & (line[0] != 48);
+    let is_row = (row.number == 0) & (line[0] != b'0');
     let is_name = text::is_name(&line[start..end]);
     let is_good = is_row & is_name & ((value.number == 0) & (flag.number == 0));
     if !(is_good & (flag.at == e)) {

@@ -1,13 +1,14 @@
 -- The words of the contracts of the functions that write a text into the lent file, from the right.
 use Prim.Native.Nat.{ℕ, _+_, _/_, _≤_}
 use mathlib.Core.Path.{_≡_}
-use mathlib.Core.List.{List, _++_}
-use mathlib.Core.Bool.{Bool, true}
+use mathlib.Core.List.{List, [], _∷_, _++_}
+use mathlib.Core.Bool.{Bool, true, cond}
 use lib.ListN.{length}
-use lib.IntN.{ℤ}
 use Rattle.text.specs.declared.Span.{Span}
+use Rattle.correction.specs.declared.Order.{Order}
+use Rattle.correction.specs.declared.writing.CellPlaces.{CellPlaces}
 use Rattle.correction.specs.Texts.{wholeText, fractionText, signText, numberText, flagText}
-use Rattle.correction.specs.Corrections.{patch}
+use Rattle.correction.specs.Corrections.{patch, Fill, fill}
 
 -- the text of a number by its sign and size
 abbrev pub textOf : Bool → ℕ → ℕ → List ℕ
@@ -29,7 +30,11 @@ pub record InCell (f : List ℕ) (p : Span) (t : List ℕ) : Type 0 where
   pub inside : p .start + p .len ≤ length f
 
 -- a measurement's cells may be written: the value's, and the flag's where there is one
-pub record Writes (f : List ℕ) (value : Span) (flagged : Bool) (flag : Span) (m : ℤ) (d v : ℕ) : Type 0 where
-  pub few : d ≤ 6
-  pub number : InCell f value (numberText m d)
-  pub digit : flagged ≡ true → (v ≤ 9) × InCell f flag (flagText v)
+pub record Writes (f : List ℕ) (p : CellPlaces) (o : Order) : Type 0 where
+  pub few : o .decimals ≤ 6
+  pub number : InCell f (p .value) (numberText (o .millionths) (o .decimals))
+  pub digit : p .flagged ≡ true → (o .flag ≤ 9) × InCell f (p .flag) (flagText (o .flag))
+
+-- what is filled in at these places
+abbrev pub fillsAt : CellPlaces → Order → List Fill
+fillsAt p o = fill (p .value) (numberText (o .millionths) (o .decimals)) ∷ cond (p .flagged) (fill (p .flag) (flagText (o .flag)) ∷ []) []

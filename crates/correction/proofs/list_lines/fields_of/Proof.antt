@@ -5,8 +5,8 @@ use borrow.Author.Tests.{not-true, not-false}
 use Rattle.correction.proofs.OneLineLaws.{one-ends}
 use Rattle.correction.proofs.ListLineLaws.{name-from, name-to, fields-read, millionths-back}
 use borrow.Author.Needs.{needs}
-use Rattle.correction.proofs.lines.fields_of.Statement.{statement}
-use Rattle.correction.proofs.lines.fields_of.Tie as tie
+use Rattle.correction.proofs.list_lines.fields_of.Statement.{statement}
+use Rattle.correction.proofs.list_lines.fields_of.Tie as tie
 
 sub-e : tie.Need-sub-e
 sub-e c = omega (arith, one-ends _ (c .before .pre) .room)

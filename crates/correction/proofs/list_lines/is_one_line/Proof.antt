@@ -5,8 +5,8 @@ use lib.ListN.{length}
 use borrow.Author.Needs.{needs}
 use Rattle.correction.specs.ListLines.{isOneLine}
 use Rattle.correction.proofs.OneLineLaws.{oneFrom, one-first, one-none, one-space, one-feed, one-step}
-use Rattle.correction.proofs.lines.is_one_line.Statement.{statement}
-use Rattle.correction.proofs.lines.is_one_line.Tie as tie
+use Rattle.correction.proofs.list_lines.is_one_line.Statement.{statement}
+use Rattle.correction.proofs.list_lines.is_one_line.Tie as tie
 
 abbrev Inv-loop : tie.InvT-loop
 Inv-loop line i₀ i = (i ≤ length line) × (isOneLine line ≡ oneFrom line i)

@@ -1,7 +1,7 @@
 use borrow.Author.Tests.{lt-ltb, le-ltb}
 use borrow.Author.Needs.{needs}
-use Rattle.correction.proofs.lines.after.Statement.{statement}
-use Rattle.correction.proofs.lines.after.Tie as tie
+use Rattle.correction.proofs.list_lines.after.Statement.{statement}
+use Rattle.correction.proofs.list_lines.after.Tie as tie
 
 add-result : tie.Need-add-result
 add-result c = search needs
