@@ -23,15 +23,18 @@ use Rattle.exchange.specs.Answers.{found, missed, askedBy, askedOf, cellPlace}
 use Rattle.exchange.specs.Located.{nameAt, isMeasured, flagColumn, hasFlag, flagPlace, measurementCells, locatedBy, locatedOf, cellsBy, cellsOf}
 use Rattle.laws.proofs.AskedLaws.{row-many}
 use Rattle.laws.proofs.FirstBrokenLaws.{checks-first}
+use Rattle.numbers.specs.Texts.{size, isBelow, numberText, flagText, atRight}
+use Rattle.numbers.specs.Patches.{textAt}
+use Rattle.numbers.specs.Inner.Puts.{InCell}
+use Rattle.numbers.proofs.SizeLaws.{below-is}
+use Rattle.numbers.proofs.TextLaws.{number-some}
 use Rattle.correction.specs.declared.Answer.{Answer}
 use Rattle.correction.specs.declared.Answer.the-variants.{Applied, Refused}
 use Rattle.correction.specs.declared.deciding.Decision.{Decision}
-use Rattle.correction.specs.Texts.{size, isBelow, numberText, flagText, atRight}
-use Rattle.correction.specs.Corrections.{Order, orderOf, isThere, badNumber, badFlag, tooLong, Test, test, firstThat, textAt, ownTexts, answerBy, answerOf, textsOf, filled, correctedOf}
-use Rattle.correction.specs.WriteWords.{InCell, Writes}
+use Rattle.correction.specs.Corrections.{Order, orderOf, isThere, badNumber, badFlag, tooLong, Test, test, firstThat, ownTexts, answerBy, answerOf, textsOf, filled, correctedOf}
+use Rattle.correction.specs.WriteWords.{Writes}
 use Rattle.correction.specs.DecideWords.{brokenBy, Decides}
-use Rattle.correction.proofs.SizeLaws.{below-is}
-use Rattle.correction.proofs.TextLaws.{number-some, flag-in}
+use Rattle.correction.proofs.FlagLaws.{flag-in}
 use Rattle.correction.proofs.GeometryLaws.{shape, begin, widthAt, width-cell, Inside, inside-of}
 use Rattle.correction.proofs.PlanLaws.{span-inside, place-shape, text-place, cellColumns, lineOf, too-long, answer-view, decide, tests-kept, writesTo, writes}
 use Rattle.correction.proofs.FitLaws.{Asked, asked, goods}

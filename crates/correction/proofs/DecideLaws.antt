@@ -4,10 +4,10 @@ use mathlib.Core.Path.{_≡_, refl, sym, _∙_}
 use mathlib.Core.Bool.{Bool, true, false, not, _||_}
 use lib.ListN.{length}
 use lib.Dec.{eqb, ltb}
-use borrow.Author.Tests.{lt-ltb, le-ltb, ltb-false}
+use borrow.Author.Tests.{lt-ltb, le-ltb, le-leb, ltb-false}
 use Rattle.exchange.specs.declared.Located.{Located}
+use Rattle.numbers.specs.Texts.{textOf, textLength}
 use Rattle.correction.specs.Corrections.{inSet}
-use Rattle.correction.specs.WriteWords.{textOf}
 use Rattle.correction.specs.DecideWords.{wrongNumber, wrongFlag, brokenBy}
 
 -- ---- 23
@@ -21,7 +21,7 @@ module _ (n d : ℕ) where
   pub number-exact : d ≤ 6 → n < 10 ^ 15 → (q : ℕ) → q ≡ 10 ^ (6 - d) → not (eqb (n % q) 0) ≡ wrongNumber n d
   number-exact h k q e = rw (le-ltb 6 d h, lt-ltb n (10 ^ 15) k, e)
 
-  pub number-few : (b : Bool) → b ≡ wrongNumber n d → b ≡ false → d ≤ 6
+  number-few : (b : Bool) → b ≡ wrongNumber n d → b ≡ false → d ≤ 6
   number-few b e z = ltb-false 6 d (first (ltb 6 d) (not (ltb n (10 ^ 15)) || not (eqb (n % 10 ^ (6 - d)) 0)) (sym e ∙ z))
     where
       first : (a b : Bool) → (a || b) ≡ false → a ≡ false
@@ -51,11 +51,14 @@ module _ (x : Located) (minus : Bool) (n d v : ℕ) where
       unfolding brokenBy
       broken-24 z = rw (measured, ← e, number, ← g, z)
 
-      module _ (flag : c ≡ false) (l : ℕ) (k : l ≡ length (textOf minus n d)) where
+      module _ (flag : c ≡ false) (l : ℕ) (k : l ≡ textLength minus n d) where
+        long : l ≡ length (textOf minus n d)
+        long = k ∙ rw (le-leb d 6 (number-few n d b e number))
+
         pub broken-25 : x .value .len < l → 25 ≡ brokenBy x minus n d v
         unfolding brokenBy
-        broken-25 h = rw (measured, ← e, number, ← g, flag, ← k, lt-ltb (x .value .len) l h)
+        broken-25 h = rw (measured, ← e, number, ← g, flag, ← long, lt-ltb (x .value .len) l h)
 
         pub broken-none : l ≤ x .value .len → 0 ≡ brokenBy x minus n d v
         unfolding brokenBy
-        broken-none h = rw (measured, ← e, number, ← g, flag, ← k, le-ltb (x .value .len) l h)
+        broken-none h = rw (measured, ← e, number, ← g, flag, ← long, le-ltb (x .value .len) l h)

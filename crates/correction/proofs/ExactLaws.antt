@@ -11,10 +11,11 @@ use Rattle.exchange.specs.Profiles.{grid}
 use Rattle.exchange.specs.Located.{flagColumn, hasFlag, cellsOf}
 use Rattle.laws.proofs.JoinLaws.{All}
 use Rattle.laws.proofs.UngridLaws.{ungrid-grid}
+use Rattle.numbers.specs.Texts.{atRight}
+use Rattle.numbers.specs.Patches.{textAt}
 use Rattle.correction.specs.declared.Answer.{Answer}
 use Rattle.correction.specs.declared.Answer.the-variants.{Applied, Refused}
-use Rattle.correction.specs.Texts.{atRight}
-use Rattle.correction.specs.Corrections.{Order, Test, testsOf, firstThat, textAt, ownTexts, answerBy, answerOf, textsOf, filled, leftBy, correctedOf}
+use Rattle.correction.specs.Corrections.{Order, Test, testsOf, firstThat, ownTexts, answerBy, answerOf, textsOf, filled, leftBy, correctedOf}
 use Rattle.correction.specs.Demand3.{IsFirst, nothing, here, later, MayApply, setAtRight, Exactly, Within, InNone}
 use Rattle.correction.proofs.GeometryLaws.{Grid, Shape, shape}
 use Rattle.correction.proofs.PutLaws.{Fit, Stands, Outside}

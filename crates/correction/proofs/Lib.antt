@@ -1,8 +1,8 @@
 pub mod ColumnLaws
 pub mod CorrectLaws
 pub mod DecideLaws
-pub mod DigitLaws
 pub mod FitLaws
+pub mod FlagLaws
 pub mod GeometryLaws
 pub mod KeepsLaws
 pub mod PairLaws
@@ -16,7 +16,5 @@ pub mod Demand3Laws
 pub mod OneLineLaws
 pub mod FieldLaws
 pub mod ListLineLaws
-pub mod SizeLaws
-pub mod TextLaws
 pub mod UniqueLaws
 pub mod WriteLaws

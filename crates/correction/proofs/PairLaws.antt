@@ -10,9 +10,9 @@ use Rattle.laws.specs.Writes.{ungrid}
 use Rattle.exchange.specs.Profiles.{grid}
 use Rattle.exchange.specs.Located.{flagColumn, hasFlag}
 use Rattle.laws.proofs.JoinLaws.{All}
+use Rattle.numbers.specs.Texts.{atRight}
 use Rattle.correction.specs.declared.Answer.{Answer}
 use Rattle.correction.specs.declared.Answer.the-variants.{Applied, Refused}
-use Rattle.correction.specs.Texts.{atRight}
 use Rattle.correction.specs.Corrections.{Order, answerOf, textsOf, correctedOf}
 use Rattle.correction.proofs.GeometryLaws.{Grid, Shape, shape, widthAt}
 use Rattle.correction.proofs.PutLaws.{Put, puts, Apart, AllApart, Distinct, Alike, puts-comm, puts-over}

@@ -18,10 +18,11 @@ use Rattle.exchange.specs.Answers.{cellPlace}
 use Rattle.exchange.specs.Located.{isMeasured, flagColumn, hasFlag, nowhere, measurementCells, cellsBy, cellsOf}
 use Rattle.laws.proofs.JoinLaws.{All}
 use Rattle.laws.proofs.UngridLaws.{clean-grid, ungrid-grid, lines-ungrid}
+use Rattle.numbers.specs.Texts.{numberText, atRight}
+use Rattle.numbers.specs.Patches.{textAt, patch}
 use Rattle.correction.specs.declared.Answer.{Answer}
 use Rattle.correction.specs.declared.Answer.the-variants.{Applied, Refused}
-use Rattle.correction.specs.Texts.{numberText, atRight}
-use Rattle.correction.specs.Corrections.{Order, isThere, badNumber, badFlag, tooLong, test, firstThat, textAt, ownTexts, answerBy, answerOf, patch, textsOf, filled, leftBy, correctedOf}
+use Rattle.correction.specs.Corrections.{Order, isThere, badNumber, badFlag, tooLong, test, firstThat, ownTexts, answerBy, answerOf, textsOf, filled, leftBy, correctedOf}
 use Rattle.correction.proofs.GeometryLaws.{Grid, Shape, widthsOf, shape, put, cellIn, cell-row, widthAt, width-cell, Inside, inside-of, shape-put, lineLong, begin, lines-long, put-patch, cell-bytes}
 use Rattle.correction.proofs.PutLaws.{Put, puts, Fit}
 

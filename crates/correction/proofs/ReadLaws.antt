@@ -17,12 +17,13 @@ use Rattle.exchange.specs.Profiles.{grid}
 use Rattle.exchange.specs.Answers.{found, askedBy, askedOf, cellText, readingBy, readingFor, flaggedBy, flaggedOf}
 use Rattle.exchange.specs.Located.{nameAt, flagColumn, hasFlag, flagColumnBy, flagColumnOf}
 use Rattle.exchange.proofs.AskLaws as ask
+use Rattle.numbers.specs.Texts.{numberText, flagText, atRight}
+use Rattle.numbers.proofs.TextLaws.{number-judged, number-signed}
 use Rattle.correction.specs.declared.Answer.{Answer}
 use Rattle.correction.specs.declared.Answer.the-variants.{Applied}
-use Rattle.correction.specs.Texts.{numberText, flagText, atRight}
 use Rattle.correction.specs.Corrections.{Order, answerOf, correctedOf}
 use Rattle.correction.specs.Demand3.{measurementOf, flagIs, ReadsAs}
-use Rattle.correction.proofs.TextLaws.{number-judged, number-signed, flag-judged}
+use Rattle.correction.proofs.FlagLaws.{flag-judged}
 use Rattle.correction.proofs.GeometryLaws.{Grid, Shape, shape, cellIn, cell-row, widthAt, width-cell}
 use Rattle.correction.proofs.PutLaws.{Put, puts, Stands, stands-kept}
 use Rattle.correction.proofs.PlanLaws.{cellColumns, lineOf, decide, answer-view, not-applied, tests-kept, writesTo, writes, ifApplied, plan}

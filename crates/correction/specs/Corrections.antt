@@ -1,17 +1,18 @@
 -- Document 01, "A correction" and refusals 21 to 25: what a correction is answered, and the bytes it leaves.
-use Prim.Native.Nat.{ℕ, _+_, _-_, _%_, _^_}
-use mathlib.Core.List.{List, [], _∷_, _++_, map}
+use Prim.Native.Nat.{ℕ, _-_, _%_, _^_}
+use mathlib.Core.List.{List, [], _∷_, map}
 use mathlib.Core.Bool.{Bool, true, false, cond, not, _&&_, _||_}
-use lib.ListN.{length, getD, take, drop}
+use lib.ListN.{length, getD}
 use lib.Dec.{eqb, leb, ltb}
 use lib.IntN.{ℤ}
 use Rattle.text.specs.declared.Span.{Span}
 use Rattle.text.specs.Names.{beginsCtd}
 use Rattle.exchange.specs.Places.{Table, Outcome, accepted, refused, outcomeOf}
 use Rattle.exchange.specs.Located.{nameAt, isMeasured, hasFlag, measurementCells, cellsOf}
+use Rattle.numbers.specs.Texts.{size, numberText, flagText, atRight}
+use Rattle.numbers.specs.Patches.{textAt, patch}
 use Rattle.correction.specs.declared.Answer.{Answer}
 use Rattle.correction.specs.declared.Answer.the-variants.{Applied, Refused}
-use Rattle.correction.specs.Texts.{size, numberText, flagText, atRight}
 
 -- a correction gives row, column, millionths, number of decimals and flag
 pub record Order : Type 0 where
@@ -73,10 +74,6 @@ unfoldable pub firstThat : List Test → Answer
 firstThat [] = Applied
 firstThat (x ∷ xs) = cond (x .holds) (Refused (x .number) 0 0) (firstThat xs)
 
--- the bytes of f at a place
-abbrev pub textAt : List ℕ → Span → List ℕ
-textAt f p = take (p .len) (drop (p .start) f)
-
 abbrev pub ownTexts : Table → List ℕ → Order → List (List ℕ)
 ownTexts t f o = map (textAt f) (measurementCells t f (o .row) (o .column))
 
@@ -93,10 +90,6 @@ numbersOf Applied = 0 ∷ 0 ∷ 0 ∷ []
 numbersOf (Refused a b c) = a ∷ b ∷ c ∷ []
 
 -- ---- the bytes left
--- the bytes of f from a on replaced by a text
-unfoldable pub patch : List ℕ → ℕ → List ℕ → List ℕ
-patch f a t = take a f ++ (t ++ drop (a + length t) f)
-
 -- the value's text and the flag digit
 abbrev pub textsOf : Order → List (List ℕ)
 textsOf o = numberText (o .millionths) (o .decimals) ∷ flagText (o .flag) ∷ []

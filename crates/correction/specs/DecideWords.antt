@@ -6,10 +6,11 @@ use mathlib.Core.Bool.{Bool, cond, not, _||_}
 use lib.ListN.{length}
 use lib.Dec.{eqb, ltb}
 use Rattle.exchange.specs.declared.Located.{Located}
+use Rattle.numbers.specs.Texts.{textOf}
 use Rattle.correction.specs.declared.Answer.the-variants.{Applied, Refused}
 use Rattle.correction.specs.declared.deciding.Decision.{Decision}
 use Rattle.correction.specs.Corrections.{Order, inSet, answerOf, textsOf, filled, correctedOf}
-use Rattle.correction.specs.WriteWords.{textOf, Writes}
+use Rattle.correction.specs.WriteWords.{Writes}
 
 -- 23, by the number's size
 abbrev pub wrongNumber : ℕ → ℕ → Bool

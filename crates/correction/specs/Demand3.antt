@@ -16,10 +16,11 @@ use Rattle.exchange.specs.Answers.{checkedOf, readingFor, flaggedOf}
 use Rattle.exchange.specs.Located.{isMeasured, flagColumnOf, cellsOf}
 use Rattle.exchange.specs.Records.{profileOf}
 use Rattle.laws.specs.Promises.{missingPairs}
+use Rattle.numbers.specs.Texts.{atRight}
+use Rattle.numbers.specs.Patches.{textAt}
 use Rattle.correction.specs.declared.Answer.{Answer}
 use Rattle.correction.specs.declared.Answer.the-variants.{Applied, Refused}
-use Rattle.correction.specs.Texts.{atRight}
-use Rattle.correction.specs.Corrections.{Order, isThere, badNumber, badFlag, tooLong, Test, testsOf, textAt, ownTexts, answerOf, textsOf, filled, correctedOf}
+use Rattle.correction.specs.Corrections.{Order, isThere, badNumber, badFlag, tooLong, Test, testsOf, ownTexts, answerOf, textsOf, filled, correctedOf}
 
 -- ---- a correction names the measurement at the row and column it gives, whether the file has them or not
 pub record Measurement : Type 0 where

@@ -1,4 +1,3 @@
-pub mod Texts
 pub mod Corrections
 pub mod ListLines
 pub mod Demand3

@@ -2,10 +2,10 @@
 ghost use mathlib.Core.Path.{_≡_};
 ghost use Rattle.correction.specs.Corrections.{orderOf};
 ghost use Rattle.correction.specs.DecideWords.{wrongNumber, wrongFlag, brokenBy, Decides};
-use crate::numbers::last_place;
-use crate::numbers::size_of;
-use crate::numbers::text_length;
 use exchange::Located;
+use numbers::last_place;
+use numbers::size_of;
+use numbers::text_length;
 use text::Span;
 
 // A correction's answer: number, line and column, 0 each where it is applied; the places of the cells to write are then the others.

@@ -7,10 +7,7 @@ use text::Span;
 
 mod deciding;
 mod lines;
-mod numbers;
 mod writing;
-
-pub use numbers::size_of;
 
 // A correction's answer.
 pub enum Answer {

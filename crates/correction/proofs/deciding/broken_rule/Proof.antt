@@ -1,6 +1,6 @@
 use borrow.Author.Tests.{not-true, not-false}
 use borrow.Author.Needs.{needs}
-use Rattle.correction.proofs.DecideLaws.{number-few, broken-22, broken-23, broken-24, broken-25, broken-none}
+use Rattle.correction.proofs.DecideLaws.{broken-22, broken-23, broken-24, broken-25, broken-none}
 use Rattle.correction.proofs.deciding.broken_rule.Statement.{statement}
 use Rattle.correction.proofs.deciding.broken_rule.Tie as tie
 
@@ -23,7 +23,7 @@ returns-3 c =
     _ (c .before .wrong-flag .ensures) (c .if3 .taken)
 
 text-length-requires : tie.Need-text-length-requires
-text-length-requires c κs = let a = c .before .before .before .before .before .before .before .args in number-few (a .size) (a .decimals) _ (c .before .before .before .before .wrong-number .ensures) (c .before .before .before .if2 .left)
+text-length-requires c κs = search needs
 
 returns-4 : tie.Need-returns-4
 returns-4 c =

@@ -1,5 +1,6 @@
 use borrow.Author.Needs.{needs}
-use Rattle.correction.proofs.WriteLaws.{cell-after, number-cell, number-set, filled-both, filled-value}
+use Rattle.numbers.proofs.PatchLaws.{cell-after}
+use Rattle.correction.proofs.WriteLaws.{number-set, flag-set, filled-both, filled-value}
 use Rattle.correction.proofs.writing.write.Statement.{statement}
 use Rattle.correction.proofs.writing.write.Tie as tie
 
@@ -7,16 +8,10 @@ size-of-requires : tie.Need-size-of-requires
 size-of-requires c κs = search needs
 
 set-number-requires : tie.Need-set-number-requires
-set-number-requires c κs =
-    let s = c .before .before .before in
-    (s .pre .few, number-cell (s .args .millionths) (s .args .decimals) (c .size-of .result) (s .fits .millionths) (c .size-of .ensures) (s .pre .number))
+set-number-requires c κs = search needs
 
-set-flag-requires : tie.Need-set-flag-requires
-set-flag-requires c κs =
-    let s = c .before .before .before .before .before .before .before .before in
-    let n = number-set (s .args .millionths) (s .args .decimals) (c .before .before .before .before .before .size-of .result) (s .fits .millionths) (c .before .before .before .before .before .size-of .ensures) (s .args .file .now) (s .args .value) (c .before .before .before .before .set-number .ensures) in
-    let d = s .pre .digit (c .before .if1 .taken) in
-    (d .0, cell-after (s .pre .number) (s .args .flag) n (d .1))
+set-digit-requires : tie.Need-set-digit-requires
+set-digit-requires c κs = search needs
 
 same-length : tie.Need-same-length
 same-length c = search needs
@@ -24,8 +19,10 @@ same-length c = search needs
 returns : tie.Need-returns
 returns c =
     let s = c .before .before .before .before .before .before .before .before .before .before .before in
-    let n = number-set (s .args .millionths) (s .args .decimals) (c .before .before .before .before .before .before .before .before .size-of .result) (s .fits .millionths) (c .before .before .before .before .before .before .before .before .size-of .ensures) (s .args .file .now) (s .args .value) (c .before .before .before .before .before .before .before .set-number .ensures) in
-    filled-both (s .args .file .now) (s .args .value) (s .args .flag) (s .args .flagged) _ _ (c .before .before .before .before .if1 .taken) n (c .before .before .set-flag .ensures)
+    let n = number-set (s .args .millionths) (s .args .decimals) (c .before .before .before .before .before .before .before .before .size-of .result) (s .fits .millionths) (c .before .before .before .before .before .before .before .before .size-of .ensures) (s .args .file .now) (s .args .value) (s .pre .few) (s .pre .number) (c .before .before .before .before .before .before .before .set-number .ensures) in
+    let d = s .pre .digit (c .before .before .before .before .if1 .taken) in
+    filled-both (s .args .file .now) (s .args .value) (s .args .flag) (s .args .flagged) _ _ (c .before .before .before .before .if1 .taken) n
+    (flag-set _ (s .args .flag) (s .args .digit) (d .0, cell-after (s .pre .number) (s .args .flag) n (d .1)) (c .before .before .set-digit .ensures))
 
 same-length-2 : tie.Need-same-length-2
 same-length-2 c = search needs
@@ -33,7 +30,7 @@ same-length-2 c = search needs
 returns-2 : tie.Need-returns-2
 returns-2 c =
     let s = c .before .before .before .before .before .before .before in
-    let n = number-set (s .args .millionths) (s .args .decimals) (c .before .before .before .before .size-of .result) (s .fits .millionths) (c .before .before .before .before .size-of .ensures) (s .args .file .now) (s .args .value) (c .before .before .before .set-number .ensures) in
+    let n = number-set (s .args .millionths) (s .args .decimals) (c .before .before .before .before .size-of .result) (s .fits .millionths) (c .before .before .before .before .size-of .ensures) (s .args .file .now) (s .args .value) (s .pre .few) (s .pre .number) (c .before .before .before .set-number .ensures) in
     filled-value (s .args .file .now) (s .args .value) (s .args .flag) (s .args .flagged) _ _ (c .if1 .left) n
 
 pub write-spec : {M : Type 1} → statement M
@@ -42,7 +39,7 @@ write-spec =
     (tie.spec
     size-of-requires
     set-number-requires
-    set-flag-requires
+    set-digit-requires
     same-length
     returns
     same-length-2
