@@ -18,3 +18,4 @@ pub mod FieldLaws
 pub mod ListLineLaws
 pub mod UniqueLaws
 pub mod WriteLaws
+pub mod WrittenLaws

@@ -3,7 +3,7 @@ use Prim.Native.Nat.{ℕ, zero, suc, _+_, _-_, _*_, _/_, _%_, _^_, _≤_, _<_}
 use mathlib.Core.Path.{_≡_, refl, sym, ap, _∙_}
 use mathlib.Core.List.{List, [], _∷_, _++_}
 use mathlib.Core.Bool.{Bool, true, false, cond}
-use native.Mathlib.Nat.{pow-suc, mul-assoc}
+use native.Mathlib.Nat.{pow-suc, mul-assoc, one-le-pow}
 use native.Mathlib.Numerals.{add-one}
 use native.Mathlib.Omega.{arith}
 use lib.ListN.{length, length-append}
@@ -101,6 +101,16 @@ whole-length (suc k) (suc j) n h =
     let p : n < 10 ^ suc j * 10 = rw pow-suc at h in
     let i : length (wholeDigits k (n / 10)) ≤ suc j = whole-length k j (n / 10) (omega arith) in
     whole-by (λ xs. length xs ≤ suc (suc j)) k n (λ l. omega arith) (λ l. omega (arith, one-more (wholeDigits k (n / 10)) (48 + n % 10)))
+
+-- and one of at least 10^j has more than j
+pub whole-many : (k j n : ℕ) → j ≤ k → 10 ^ j ≤ n → suc j ≤ length (wholeDigits k n)
+whole-many k zero n l h = whole-some k n
+whole-many zero (suc j) n l h = absurd (omega arith)
+whole-many (suc k) (suc j) n l h =
+    let p : 10 ^ j * 10 ≤ n = rw pow-suc at h in
+    let o : 1 ≤ 10 ^ j = one-le-pow j 10 (omega arith) in
+    let i : suc j ≤ length (wholeDigits k (n / 10)) = whole-many k j (n / 10) (omega arith) (omega arith) in
+    whole-by (λ xs. suc (suc j) ≤ length xs) k n (λ t. absurd (omega arith)) (λ t. omega (arith, one-more (wholeDigits k (n / 10)) (48 + n % 10)))
 
 pub whole-numeral : (k n : ℕ) → n < 10 ^ suc k → numeral 0 (wholeDigits k n) ≡ n
 whole-numeral zero n h = rw whole-zero (numeral-digit 0 n ∙ omega arith)

@@ -1,23 +1,26 @@
 -- The text of a number and of a flag: plain bytes, set at the right of a cell, and judged as the number it was made of.
 use Prim.Native.Nat.{ℕ, zero, suc, _+_, _-_, _*_, _/_, _%_, _^_, _≤_, _<_}
-use mathlib.Core.Path.{_≡_, refl, ap, _∙_}
+use mathlib.Core.Path.{_≡_, refl, sym, ap, _∙_}
 use mathlib.Core.List.{List, [], _∷_, _++_}
-use mathlib.Core.Bool.{Bool, true, false, cond, not, _&&_}
+use mathlib.Core.Logic.{_↔_}
+use mathlib.Core.Bool.{Bool, true, false, cond, not, _&&_, false≢true}
 use native.Mathlib.Omega.{arith}
 use lib.ListN.{length, replicate, length-append, length-replicate}
-use lib.Dec.{eqb, leb}
+use lib.Dec.{eqb, leb, ltb}
 use lib.IntN.{ℤ, pos, negsuc}
-use borrow.Author.Tests.{le-leb, lt-leb, ne-eqb, eqb-true, lt-ltb}
+use borrow.Author.Tests.{le-leb, lt-leb, leb-true, ne-eqb, eqb-true, lt-ltb, ltb-true, ltb-false}
 use Rattle.text.specs.Bytes.{isDigit, every, numeral}
 use Rattle.text.specs.Spaces.{trim}
-use Rattle.text.specs.Decimals.{Verdict, good, front, fraction, settle, unsignedOf, decimalOf}
-use Rattle.text.specs.Judge.{kindOf, judge, ofKind, wholeOf, unlessBlank}
+use Rattle.text.specs.Decimals.{Verdict, wrong, good, front, fraction, settle, unsignedOf, decimalOf}
+use Rattle.text.specs.Judge.{measured, kindOf, judge, ofKind, wholeOf, unlessBlank}
 use Rattle.text.specs.Reading.{signed}
+use Rattle.text.specs.Rows.{isGood, sizeOf}
+use Rattle.text.proofs.CellLaws.{both-true}
 use Rattle.text.proofs.EveryLaws.{every-cons}
 use Rattle.text.proofs.ScanLaws.{digit-yes, digit-range}
 use Rattle.text.proofs.SpaceLaws.{isSolid, trim-solid, trim-pad-front}
 use Rattle.numbers.specs.Texts.{size, isBelow, lastDigits, wholeText, fractionText, signText, textOf, textLength, numberText, flagText, atRight}
-use Rattle.numbers.proofs.DigitLaws.{every-append, every-one, every-after, every-from, numeral-append, last-length, last-digits, last-numeral, whole-digits, whole-some, whole-length, whole-numeral}
+use Rattle.numbers.proofs.DigitLaws.{every-append, every-one, every-after, every-from, numeral-append, last-length, last-digits, last-numeral, whole-digits, whole-some, whole-length, whole-many, whole-numeral}
 
 -- ---- at the right of a cell
 pub atRight-length : (w : ℕ) (t : List ℕ) → length t ≤ w → length (atRight w t) ≡ w
@@ -161,31 +164,12 @@ decimals-exact n =
     up-to-six (λ d. n % 10 ^ (6 - d) ≡ 0 → (n / 1000000 * 10 ^ d + n % 1000000 / 10 ^ (6 - d)) * 10 ^ (6 - d) ≡ n)
     (λ e. omega arith) (λ e. omega arith) (λ e. omega arith) (λ e. omega arith) (λ e. omega arith) (λ e. omega arith) (λ e. omega arith)
 
-settled : (b : Bool) (v w a n : ℕ) → 1 ≤ w → w ≤ 9 → a ≤ 6 → v * 10 ^ (6 - a) ≡ n → settle b v w a ≡ good b n a
-unfolding settle
-settled b v w a n p q h e = rw (le-leb w 9 q, le-leb a 6 h, le-leb 1 (w + a) (omega arith)) (ap (λ (k : ℕ). good b k a) e)
+exact-multiple : (v n d : ℕ) → d ≤ 6 → v * 10 ^ (6 - d) ≡ n → n % 10 ^ (6 - d) ≡ 0
+exact-multiple v n =
+    up-to-six (λ d. v * 10 ^ (6 - d) ≡ n → n % 10 ^ (6 - d) ≡ 0)
+    (λ e. omega arith) (λ e. omega arith) (λ e. omega arith) (λ e. omega arith) (λ e. omega arith) (λ e. omega arith) (λ e. omega arith)
 
-module _ (b : Bool) (n d : ℕ) (few : d ≤ 6) (small : n < 10 ^ 15) (exact : n % 10 ^ (6 - d) ≡ 0) where
-  abbrev whole : List ℕ
-  whole = wholeText (n / 1000000)
-
-  abbrev decimals : List ℕ
-  decimals = lastDigits d (n % 1000000 / 10 ^ (6 - d))
-
-  written : numeral 0 (whole ++ decimals) ≡ n / 1000000 * 10 ^ d + n % 1000000 / 10 ^ (6 - d)
-  written =
-      numeral-append 0 whole decimals ∙ ap (λ (k : ℕ). numeral k decimals) (whole-numeral 19 (n / 1000000) (omega arith))
-      ∙ last-numeral d (n % 1000000 / 10 ^ (6 - d)) (n / 1000000) (decimals-few n d few)
-
-  unsigned-text : unsignedOf b (whole ++ fractionText d n) ≡ good b n d
-  unfolding unsignedOf
-  unsigned-text =
-      let w = whole-digits 19 (n / 1000000) in
-      let f : front (whole ++ fractionText d n) ≡ whole = digits-front whole w (fractionText d n) (fraction-front d n) in
-      let r : fraction (whole ++ fractionText d n) ≡ decimals = digits-fraction whole w (fractionText d n) ∙ fraction-rest d n in
-      rw (f, r) (rw (last-digits d (n % 1000000 / 10 ^ (6 - d)), last-length d (n % 1000000 / 10 ^ (6 - d)), written)
-      (settled b _ (length whole) d n (whole-some 19 (n / 1000000)) (whole-length 19 8 (n / 1000000) (omega arith)) few (decimals-exact n d few exact)))
-
+-- a text that begins with a digit has no sign
 decimal-digits : (w f : List ℕ) → every isDigit w ≡ true → 1 ≤ length w → decimalOf (w ++ f) ≡ unsignedOf false (w ++ f)
 unfolding decimalOf
 decimal-digits [] f h k = absurd (omega arith)
@@ -193,11 +177,65 @@ decimal-digits (x ∷ xs) f h k =
     let r = digit-range x (every-cons isDigit x xs h .0) in
     rw (ne-eqb x 45 (omega arith), ne-eqb x 43 (omega arith))
 
-signed-text : (b : Bool) (n d : ℕ) → d ≤ 6 → n < 10 ^ 15 → n % 10 ^ (6 - d) ≡ 0 → decimalOf (textOf b n d) ≡ good b n d
-unfolding decimalOf
-signed-text true n d few small exact = unsigned-text true n d few small exact
-signed-text false n d few small exact =
-    decimal-digits (wholeText (n / 1000000)) (fractionText d n) (whole-digits 19 (n / 1000000)) (whole-some 19 (n / 1000000)) ∙ unsigned-text false n d few small exact
+settled : (b : Bool) (v w a n : ℕ) → 1 ≤ w → w ≤ 9 → a ≤ 6 → v * 10 ^ (6 - a) ≡ n → settle b v w a ≡ good b n a
+unfolding settle
+settled b v w a n p q h e = rw (le-leb w 9 q, le-leb a 6 h, le-leb 1 (w + a) (omega arith)) (ap (λ (k : ℕ). good b k a) e)
+
+-- and what is settled as good
+settled-only : (b : Bool) (v w a n : ℕ) → settle b v w a ≡ good b n a → (w ≤ 9) × (a ≤ 6) × (v * 10 ^ (6 - a) ≡ n)
+unfolding settle
+settled-only b v w a n = go (leb w 9 && (leb a 6 && leb 1 (w + a))) refl
+  where
+    go : (c : Bool) → (leb w 9 && (leb a 6 && leb 1 (w + a))) ≡ c → cond c (good b (v * 10 ^ (6 - a)) a) wrong ≡ good b n a → (w ≤ 9) × (a ≤ 6) × (v * 10 ^ (6 - a) ≡ n)
+    go true q e =
+        let x = both-true (leb w 9) (leb a 6 && leb 1 (w + a)) q in
+        (leb-true w 9 (x .0), leb-true a 6 (both-true (leb a 6) (leb 1 (w + a)) (x .1) .0), ap sizeOf e)
+    go false q e = absurd (false≢true (ap isGood e))
+
+-- the text of any number with any decimals: its digits are settled
+module _ (n d : ℕ) where
+  abbrev whole : List ℕ
+  whole = wholeText (n / 1000000)
+
+  abbrev decimals : List ℕ
+  decimals = lastDigits d (n % 1000000 / 10 ^ (6 - d))
+
+  unsigned-text : (b : Bool) → unsignedOf b (whole ++ fractionText d n) ≡ settle b (numeral 0 (whole ++ decimals)) (length whole) d
+  unfolding unsignedOf
+  unsigned-text b =
+      let w = whole-digits 19 (n / 1000000) in
+      let f : front (whole ++ fractionText d n) ≡ whole = digits-front whole w (fractionText d n) (fraction-front d n) in
+      let r : fraction (whole ++ fractionText d n) ≡ decimals = digits-fraction whole w (fractionText d n) ∙ fraction-rest d n in
+      rw (f, r) (rw (last-digits d (n % 1000000 / 10 ^ (6 - d)), last-length d (n % 1000000 / 10 ^ (6 - d))))
+
+  signed-text : (b : Bool) → decimalOf (textOf b n d) ≡ settle b (numeral 0 (whole ++ decimals)) (length whole) d
+  unfolding decimalOf
+  signed-text true = unsigned-text true
+  signed-text false = decimal-digits whole (fractionText d n) (whole-digits 19 (n / 1000000)) (whole-some 19 (n / 1000000)) ∙ unsigned-text false
+
+  written : d ≤ 6 → n < 10 ^ 15 → numeral 0 (whole ++ decimals) ≡ n / 1000000 * 10 ^ d + n % 1000000 / 10 ^ (6 - d)
+  written few small =
+      numeral-append 0 whole decimals ∙ ap (λ (k : ℕ). numeral k decimals) (whole-numeral 19 (n / 1000000) (omega arith))
+      ∙ last-numeral d (n % 1000000 / 10 ^ (6 - d)) (n / 1000000) (decimals-few n d few)
+
+  -- good where it is small enough and exact in its decimals
+  good-text : (b : Bool) → d ≤ 6 → n < 10 ^ 15 → n % 10 ^ (6 - d) ≡ 0 → decimalOf (textOf b n d) ≡ good b n d
+  good-text b few small exact =
+      signed-text b ∙ ap (λ (v : ℕ). settle b v (length whole) d) (written few small)
+      ∙ settled b _ (length whole) d n (whole-some 19 (n / 1000000)) (whole-length 19 8 (n / 1000000) (omega arith)) few (decimals-exact n d few exact)
+
+  -- and only there: nine digits before the point are too few for a larger one
+  whole-small : length whole ≤ 9 → n < 10 ^ 15
+  whole-small h = go (ltb (n / 1000000) (10 ^ 9)) refl
+    where
+      go : (c : Bool) → ltb (n / 1000000) (10 ^ 9) ≡ c → n < 10 ^ 15
+      go true e = omega (arith, ltb-true (n / 1000000) (10 ^ 9) e)
+      go false e = absurd (omega (arith, whole-many 19 9 (n / 1000000) (omega arith) (ltb-false (n / 1000000) (10 ^ 9) e)))
+
+  good-only : (b : Bool) → decimalOf (textOf b n d) ≡ good b n d → (d ≤ 6) × (n < 10 ^ 15) × (n % 10 ^ (6 - d) ≡ 0)
+  good-only b e =
+      let x = settled-only b (numeral 0 (whole ++ decimals)) (length whole) d n (sym (signed-text b) ∙ e) in
+      (x .1, whole-small (x .0), exact-multiple (numeral 0 (whole ++ decimals)) n d (x .1) (x .2))
 
 pub number-some : (m : ℤ) (d : ℕ) → 1 ≤ length (numberText m d)
 unfolding numberText
@@ -208,13 +246,25 @@ not-blank : (f : List ℕ → Verdict) (t : List ℕ) → 1 ≤ length t → unl
 not-blank f [] h = absurd (omega arith)
 not-blank f (x ∷ xs) h = refl
 
-number-text : (m : ℤ) (d : ℕ) → Writable m d → decimalOf (numberText m d) ≡ good (isBelow m) (size m) d
-unfolding numberText
-number-text m d h = signed-text (isBelow m) (size m) d (h .few) (h .small) (h .exact)
+-- at the right of its cell too
+number-decimal : (m : ℤ) (d w : ℕ) → judge measured (atRight w (numberText m d)) ≡ decimalOf (numberText m d)
+unfolding judge ofKind
+number-decimal m d w = rw (atRight-trim w (numberText m d) (number-solid m d)) (not-blank decimalOf (numberText m d) (number-some m d))
 
 pub number-judged : (m : ℤ) (d w : ℕ) → Writable m d → length (numberText m d) ≤ w → judge (kindOf 0) (atRight w (numberText m d)) ≡ good (isBelow m) (size m) d
-unfolding judge kindOf ofKind
-number-judged m d w h k = rw (atRight-trim w (numberText m d) (number-solid m d)) (not-blank (ofKind (kindOf 0)) (numberText m d) (number-some m d) ∙ number-text m d h)
+unfolding numberText kindOf
+number-judged m d w h k = number-decimal m d w ∙ good-text (size m) d (isBelow m) (h .few) (h .small) (h .exact)
+
+-- a number's text judged as that number, exactly where it may be written
+pub number-exactly : (m : ℤ) (d : ℕ) → (Writable m d) ↔ (judge measured (numberText m d) ≡ good (isBelow m) (size m) d)
+unfolding numberText judge ofKind
+number-exactly m d = (
+  (λ h. number-here ∙ good-text (size m) d (isBelow m) (h .few) (h .small) (h .exact)),
+  (λ e. let x = good-only (size m) d (isBelow m) (sym number-here ∙ e) in record { few = x .0; small = x .1; exact = x .2 }),
+)
+  where
+    number-here : judge measured (numberText m d) ≡ decimalOf (numberText m d)
+    number-here = rw (trim-solid (numberText m d) (number-solid m d)) (not-blank decimalOf (numberText m d) (number-some m d))
 
 pub number-signed : (m : ℤ) → size m < 10 ^ 15 → signed (isBelow m) (size m) ≡ m
 unfolding signed

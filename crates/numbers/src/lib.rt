@@ -79,6 +79,6 @@ pub fn set_digit(file: &mut [u8], cell: Span, digit: u64)
     if !lengths::has_room(file.len(), cell, 1) {
         return;
     }
-    let start = puts::put_byte(file, cell.start + cell.len, b'0' + (digit as u8));
-    puts::clear(file, cell.start, start);
+    let place = puts::put_byte(file, cell.start + cell.len, b'0' + (digit as u8));
+    puts::clear(file, cell.start, place);
 }
