@@ -4,9 +4,10 @@ use mathlib.Core.Path.{_≡_, refl, sym, _∙_}
 use mathlib.Core.Bool.{Bool, true, false, not, _||_}
 use lib.ListN.{length}
 use lib.Dec.{eqb, ltb}
-use borrow.Author.Tests.{lt-ltb, le-ltb, le-leb, ltb-false}
+use borrow.Author.Tests.{lt-ltb, le-ltb, ltb-false}
 use Rattle.exchange.specs.declared.Located.{Located}
 use Rattle.numbers.specs.Texts.{textOf, textLength}
+use Rattle.numbers.proofs.TextLaws.{length-is}
 use Rattle.correction.specs.Corrections.{inSet}
 use Rattle.correction.specs.DecideWords.{wrongNumber, wrongFlag, brokenBy}
 
@@ -53,7 +54,7 @@ module _ (x : Located) (minus : Bool) (n d v : ℕ) where
 
       module _ (flag : c ≡ false) (l : ℕ) (k : l ≡ textLength minus n d) where
         long : l ≡ length (textOf minus n d)
-        long = k ∙ rw (le-leb d 6 (number-few n d b e number))
+        long = k ∙ length-is minus n d (number-few n d b e number)
 
         pub broken-25 : x .value .len < l → 25 ≡ brokenBy x minus n d v
         unfolding brokenBy

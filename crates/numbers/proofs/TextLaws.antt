@@ -46,8 +46,11 @@ text-length b n d =
 pub length-none : (b : Bool) (n d : ℕ) → 6 < d → 0 ≡ textLength b n d
 length-none b n d h = rw (lt-leb d 6 h)
 
+pub length-is : (b : Bool) (n d : ℕ) → d ≤ 6 → textLength b n d ≡ length (textOf b n d)
+length-is b n d h = rw (le-leb d 6 h)
+
 pub length-some : (b : Bool) (n d : ℕ) → d ≤ 6 → {x y z : ℕ} → x ≡ length (signText b) → y ≡ length (wholeText (n / 1000000)) → z ≡ length (fractionText d n) → x + y + z ≡ textLength b n d
-length-some b n d h {x} {y} {z} e f g = rw (le-leb d 6 h) (omega (arith, e, f, g, text-length b n d))
+length-some b n d h {x} {y} {z} e f g = omega (arith, e, f, g, length-is b n d h, text-length b n d)
 
 -- ---- the bytes of a text: digits, a point, a minus
 module _ (p : ℕ → Bool) (digits : (x : ℕ) → isDigit x ≡ true → p x ≡ true) (point : p 46 ≡ true) (minus : p 45 ≡ true) where
