@@ -17,15 +17,18 @@ use Rattle.exchange.specs.Answers.{found, missed, askedBy, askedOf, cellPlace}
 use Rattle.exchange.specs.Located.{nameAt, flagColumn, hasFlag, nowhere, flagPlace, locatedBy, locatedOf}
 use Rattle.laws.proofs.AskedLaws.{row-many}
 use Rattle.laws.proofs.FirstBrokenLaws.{checks-first}
+use Rattle.numbers.specs.Texts.{numberText, flagText, atRight}
+use Rattle.numbers.specs.Patches.{textAt}
+use Rattle.numbers.specs.Inner.Puts.{InCell}
+use Rattle.numbers.proofs.TextLaws.{number-some}
 use Rattle.correction.specs.declared.Answer.the-variants.{Applied, Refused}
 use Rattle.correction.specs.declared.deciding.Decision.{Decision}
 use Rattle.correction.specs.declared.writing.CellPlaces.{CellPlaces}
-use Rattle.correction.specs.Texts.{numberText, flagText, atRight}
 use Rattle.correction.specs.declared.Order.{Order}
-use Rattle.correction.specs.Corrections.{entry, isThere, noSuchCell, badFlag, anyLonger, textTooLong, test, testsOf, textAt, ownText, answerBy, answerOf, Fill, fill, fillAt, fillsBy, fillsOf, filled, correctedOf}
-use Rattle.correction.specs.Inner.Writing.{InCell, Writes, fillsAt}
+use Rattle.correction.specs.Corrections.{entry, isThere, noSuchCell, badFlag, anyLonger, textTooLong, test, testsOf, ownText, answerBy, answerOf, Fill, fill, fillAt, fillsBy, fillsOf, filled, correctedOf}
+use Rattle.correction.specs.Inner.Writing.{Writes, fillsAt}
 use Rattle.correction.specs.Inner.Deciding.{firstNumber, testsAt, Decides}
-use Rattle.correction.proofs.TextLaws.{number-some, flag-in}
+use Rattle.correction.proofs.FlagLaws.{flag-in}
 use Rattle.correction.proofs.GeometryLaws.{shape, begin, widthAt, width-cell, Inside, inside-of}
 use Rattle.correction.proofs.TestLaws.{first-here, first-later, byNumber, first-number}
 use Rattle.correction.proofs.PlanLaws.{span-inside, place-shape, text-place, lineOf, answer-view, decide}

@@ -10,10 +10,10 @@ use mir.Syntax.{w64}
 use mir.Val.{toZ, ofZ, SFits}
 use mir.ValLaws.{toZ-ofZ}
 use borrow.Author.Tests.{lt-ltb, le-ltb, ltb-false}
-use Rattle.correction.specs.Texts.{size, numberText}
+use Rattle.numbers.specs.Texts.{size, numberText, textLength}
+use Rattle.numbers.proofs.TextLaws.{length-is}
 use Rattle.correction.specs.declared.Order.{Order}
 use Rattle.correction.specs.Corrections.{badNumber, inSet, wrongFlag}
-use Rattle.correction.specs.Inner.Writing.{textOf}
 use Rattle.correction.proofs.WriteLaws.{number-as}
 
 -- ---- 23, with the number's size n as the code has it
@@ -35,9 +35,9 @@ module _ (o : Order) where
     number-exact h k q p = rw (le-ltb 6 (o .decimals) h, ← size-is, lt-ltb n (10 ^ 15) k, p)
 
     -- 25, with the length l of the number's text
-    module _ (w l : ℕ) (k : l ≡ length (textOf (ltZ (toZ w64 (ofZ w64 (o .millionths))) (pos 0)) n (o .decimals))) where
+    module _ (w l : ℕ) (few : o .decimals ≤ 6) (k : l ≡ textLength (ltZ (toZ w64 (ofZ w64 (o .millionths))) (pos 0)) n (o .decimals)) where
       long-is : l ≡ length (numberText (o .millionths) (o .decimals))
-      long-is = k ∙ ap length (number-as (o .millionths) (o .decimals) n s e)
+      long-is = k ∙ length-is (ltZ (toZ w64 (ofZ w64 (o .millionths))) (pos 0)) n (o .decimals) few ∙ ap length (number-as (o .millionths) (o .decimals) n s e)
 
       pub text-longer : w < l → ltb w (length (numberText (o .millionths) (o .decimals))) ≡ true
       text-longer h = rw (← long-is) (lt-ltb w l h)

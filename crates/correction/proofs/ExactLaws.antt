@@ -11,11 +11,12 @@ use Rattle.exchange.specs.Answers.{cellPlace}
 use Rattle.exchange.specs.Located.{nowhere, flagColumn, hasFlag, measurementCells, cellsBy, cellsOf}
 use Rattle.laws.proofs.JoinLaws.{All}
 use Rattle.laws.proofs.UngridLaws.{ungrid-grid}
+use Rattle.numbers.specs.Texts.{flagText, atRight}
+use Rattle.numbers.specs.Patches.{textAt}
 use Rattle.correction.specs.declared.Answer.{Answer}
 use Rattle.correction.specs.declared.Answer.the-variants.{Applied, Refused}
-use Rattle.correction.specs.Texts.{flagText, atRight}
 use Rattle.correction.specs.declared.Order.{Order}
-use Rattle.correction.specs.Corrections.{Entry, entry, entriesOf, testsOf, textAt, ownText, answerBy, answerOf, Fill, fillAt, fillsBy, fillsOf, filled, filledText, leftBy, correctedOf}
+use Rattle.correction.specs.Corrections.{Entry, entry, entriesOf, testsOf, ownText, answerBy, answerOf, Fill, fillAt, fillsBy, fillsOf, filled, filledText, leftBy, correctedOf}
 use Rattle.correction.specs.Demand3.{IsFirst, MayApply, Exactly, Within, InNone}
 use Rattle.correction.proofs.TestLaws.{not-applied, first-that, none-holds, none-applied}
 use Rattle.correction.proofs.GeometryLaws.{Grid, Shape, shape}

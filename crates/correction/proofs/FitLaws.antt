@@ -28,13 +28,14 @@ use Rattle.exchange.proofs.HeaderLaws.{then-clean, breaks-clean}
 use Rattle.exchange.proofs.GridLaws.{cells-many}
 use Rattle.laws.proofs.JoinLaws.{Free, All}
 use Rattle.laws.proofs.WriteLaws.{RowHolds, row-holds, Fits}
+use Rattle.numbers.specs.Texts.{size, numberText, flagText}
+use Rattle.numbers.proofs.DigitLaws.{every-from}
+use Rattle.numbers.proofs.TextLaws.{atRight-length, isPlain, number-plain, flag-plain, Writable, number-judged}
 use Rattle.correction.specs.declared.Answer.the-variants.{Applied}
-use Rattle.correction.specs.Texts.{size, numberText, flagText}
 use Rattle.correction.specs.declared.Order.{Order}
 use Rattle.correction.specs.Corrections.{Entry, entry, entriesOf, numberEntries, isThere, notCorrectable, badNumber, inSet, badFlag, anyLonger, testsOf}
 use Rattle.correction.specs.Demand3.{NoneHolds}
-use Rattle.correction.proofs.DigitLaws.{every-from}
-use Rattle.correction.proofs.TextLaws.{atRight-length, isPlain, number-plain, flag-plain, Writable, number-judged, flag-judged}
+use Rattle.correction.proofs.FlagLaws.{flag-judged}
 use Rattle.correction.proofs.GeometryLaws.{Shape, shape, cell-row, widthAt, width-cell, inside-of}
 use Rattle.correction.proofs.PutLaws.{Put, Fit, inRow}
 use Rattle.correction.proofs.TestLaws.{none-holds, passed}

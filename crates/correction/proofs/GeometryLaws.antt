@@ -10,7 +10,7 @@ use Rattle.exchange.specs.Grid.{starts}
 use Rattle.laws.specs.Writes.{joinLater, join, ungrid}
 use Rattle.laws.proofs.JoinLaws.{All, bytesBefore, bytesAfter, length-before, join-at, join-set}
 use Rattle.laws.proofs.UngridLaws.{CleanCell, CleanRow, Clean, clean-row-set}
-use Rattle.correction.specs.Corrections.{patch}
+use Rattle.numbers.specs.Patches.{patch}
 
 abbrev pub Grid : Type 0
 Grid = List (List (List ℕ))

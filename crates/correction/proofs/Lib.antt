@@ -2,8 +2,8 @@ pub mod ColumnLaws
 pub mod CoverLaws
 pub mod CorrectLaws
 pub mod DecideLaws
-pub mod DigitLaws
 pub mod FitLaws
+pub mod FlagLaws
 pub mod GeometryLaws
 pub mod KeepsLaws
 pub mod PairLaws
@@ -18,8 +18,7 @@ pub mod Demand3Laws
 pub mod OneLineLaws
 pub mod FieldLaws
 pub mod ListLineLaws
-pub mod SizeLaws
 pub mod TestLaws
-pub mod TextLaws
 pub mod UniqueLaws
 pub mod WriteLaws
+pub mod WrittenLaws

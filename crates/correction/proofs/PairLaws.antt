@@ -10,8 +10,8 @@ use Rattle.laws.specs.Writes.{ungrid}
 use Rattle.exchange.specs.Profiles.{grid}
 use Rattle.exchange.specs.Located.{flagColumn, hasFlag}
 use Rattle.laws.proofs.JoinLaws.{All}
+use Rattle.numbers.specs.Texts.{flagText}
 use Rattle.correction.specs.declared.Answer.the-variants.{Applied}
-use Rattle.correction.specs.Texts.{flagText}
 use Rattle.correction.specs.declared.Order.{Order}
 use Rattle.correction.specs.Corrections.{Entry, entry, flagEntries, entriesOf, answerOf, correctedOf}
 use Rattle.correction.proofs.GeometryLaws.{Grid, Shape, shape}

@@ -10,9 +10,9 @@ use Rattle.exchange.specs.Places.{Table, Outcome, accepted, refused, outcomeOf}
 use Rattle.exchange.specs.Profiles.{grid}
 use Rattle.exchange.specs.Located.{flagColumn, hasFlag}
 use Rattle.laws.proofs.JoinLaws.{All}
+use Rattle.numbers.specs.Texts.{flagText}
 use Rattle.correction.specs.declared.Answer.{Answer}
 use Rattle.correction.specs.declared.Answer.the-variants.{Applied, Refused}
-use Rattle.correction.specs.Texts.{flagText}
 use Rattle.correction.specs.declared.Order.{Order}
 use Rattle.correction.specs.Corrections.{Entry, entry, valueEntry, flagEntries, entriesOf}
 use Rattle.correction.proofs.GeometryLaws.{Shape, shape}

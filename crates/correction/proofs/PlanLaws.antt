@@ -17,11 +17,12 @@ use Rattle.exchange.specs.Answers.{cellPlace}
 use Rattle.exchange.specs.Located.{nowhere}
 use Rattle.laws.proofs.JoinLaws.{All}
 use Rattle.laws.proofs.UngridLaws.{clean-grid, ungrid-grid, lines-ungrid}
+use Rattle.numbers.specs.Texts.{atRight}
+use Rattle.numbers.specs.Patches.{textAt, patch}
 use Rattle.correction.specs.declared.Answer.{Answer}
 use Rattle.correction.specs.declared.Answer.the-variants.{Applied, Refused}
-use Rattle.correction.specs.Texts.{atRight}
 use Rattle.correction.specs.declared.Order.{Order}
-use Rattle.correction.specs.Corrections.{Entry, entriesOf, numberEntries, anyLonger, textTooLong, testsOf, firstThat, textAt, ownText, answerBy, answerOf, patch, fillAt, fillsBy, fillsOf, filled, leftBy, correctedOf}
+use Rattle.correction.specs.Corrections.{Entry, entriesOf, numberEntries, anyLonger, textTooLong, testsOf, firstThat, ownText, answerBy, answerOf, fillAt, fillsBy, fillsOf, filled, leftBy, correctedOf}
 use Rattle.correction.proofs.GeometryLaws.{Grid, Shape, widthsOf, shape, put, cellIn, cell-row, widthAt, width-cell, Inside, inside-of, shape-put, lineLong, begin, lines-long, put-patch, cell-bytes}
 use Rattle.correction.proofs.PutLaws.{Put, puts, Fit}
 

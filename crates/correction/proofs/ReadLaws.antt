@@ -19,14 +19,15 @@ use Rattle.exchange.specs.Answers.{kindAt, found, askedBy, askedOf, cellText, r
 use Rattle.exchange.specs.Located.{nameAt, flagColumn, hasFlag, flagColumnBy, flagColumnOf}
 use Rattle.laws.proofs.JoinLaws.{All}
 use Rattle.exchange.proofs.AskLaws as ask
+use Rattle.numbers.specs.Texts.{numberText, flagText, atRight}
+use Rattle.numbers.proofs.TextLaws.{number-judged, number-signed}
 use Rattle.correction.specs.declared.Answer.{Answer}
 use Rattle.correction.specs.declared.Answer.the-variants.{Applied, Refused}
-use Rattle.correction.specs.Texts.{numberText, flagText, atRight}
 use Rattle.correction.specs.declared.Order.{Order}
 use Rattle.correction.specs.Corrections.{Entry, entry, entriesOf, answerOf, correctedOf}
 use Rattle.correction.specs.Demand3.{Measurement, measurementOf, flagIs, ReadsAs}
+use Rattle.correction.proofs.FlagLaws.{flag-judged}
 use Rattle.correction.proofs.TestLaws.{not-applied}
-use Rattle.correction.proofs.TextLaws.{number-judged, number-signed, flag-judged}
 use Rattle.correction.proofs.GeometryLaws.{Grid, Shape, shape, cellIn, cell-row, widthAt, width-cell}
 use Rattle.correction.proofs.PutLaws.{Put, puts, AllApart, Stands, stands-kept}
 use Rattle.correction.proofs.PlanLaws.{lineOf, decideIn, decide, answer-view, putOf, writesTo, all-writes, writes-all, writes, ifApplied, Part, planBy}

@@ -1,8 +1,8 @@
 -- Document 01, "A correction" and refusals 21 to 25: what a correction is answered, and the bytes it leaves.
-use Prim.Native.Nat.{ℕ, _+_, _-_, _%_, _^_}
-use mathlib.Core.List.{List, [], _∷_, _++_, map}
+use Prim.Native.Nat.{ℕ, _-_, _%_, _^_}
+use mathlib.Core.List.{List, [], _∷_, map}
 use mathlib.Core.Bool.{Bool, false, cond, not, _&&_, _||_}
-use lib.ListN.{length, take, drop}
+use lib.ListN.{length}
 use lib.Dec.{eqb, leb, ltb}
 use lib.IntN.{ℤ}
 use Rattle.text.specs.declared.Span.{Span}
@@ -10,10 +10,11 @@ use Rattle.text.specs.Names.{beginsCtd}
 use Rattle.exchange.specs.Places.{Table, Outcome, accepted, refused, outcomeOf}
 use Rattle.exchange.specs.Answers.{cellPlace}
 use Rattle.exchange.specs.Located.{nameAt, isMeasured, flagColumn, hasFlag}
+use Rattle.numbers.specs.Texts.{size, numberText, flagText, atRight}
+use Rattle.numbers.specs.Patches.{textAt, patch}
 use Rattle.correction.specs.declared.Order.{Order}
 use Rattle.correction.specs.declared.Answer.{Answer}
 use Rattle.correction.specs.declared.Answer.the-variants.{Applied, Refused}
-use Rattle.correction.specs.Texts.{size, numberText, flagText, atRight}
 
 -- a correction gives row, column, millionths, number of decimals and flag
 abbrev pub orderOf : ℕ → ℕ → ℤ → ℕ → ℕ → Order
@@ -99,10 +100,6 @@ unfoldable pub firstThat : List Test → Answer
 firstThat [] = Applied
 firstThat (x ∷ xs) = cond (x .holds) (Refused (x .number) 0 0) (firstThat xs)
 
--- the bytes of f at a place
-abbrev pub textAt : List ℕ → Span → List ℕ
-textAt f p = take (p .len) (drop (p .start) f)
-
 -- the text of column c in the row of a correction, with its spaces
 abbrev pub ownText : Table → List ℕ → Order → ℕ → List ℕ
 ownText t f o c = textAt f (cellPlace t f (o .row) c)
@@ -120,10 +117,6 @@ numbersOf Applied = 0 ∷ 0 ∷ 0 ∷ []
 numbersOf (Refused a b c) = a ∷ b ∷ c ∷ []
 
 -- ---- the bytes left
--- the bytes of f from a on replaced by a text
-unfoldable pub patch : List ℕ → ℕ → List ℕ → List ℕ
-patch f a t = take a f ++ (t ++ drop (a + length t) f)
-
 -- a text to be set at the right of the cell at a place
 pub record Fill : Type 0 where
   pub place : Span

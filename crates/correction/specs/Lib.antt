@@ -1,5 +1,5 @@
-pub mod Texts
 pub mod Corrections
 pub mod ListLines
 pub mod Demand3
+pub mod WrittenTexts
 pub mod Inner

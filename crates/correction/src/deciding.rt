@@ -3,11 +3,11 @@ ghost use mathlib.Core.Path.{_≡_};
 ghost use Rattle.correction.specs.Corrections.{badNumber, wrongFlag};
 ghost use Rattle.correction.specs.Inner.Deciding.{firstNumber, testsAt, Decides};
 use crate::Order;
-use crate::numbers::last_place;
-use crate::numbers::size_of;
-use crate::numbers::text_length;
 use crate::writing::CellPlaces;
 use exchange::Located;
+use numbers::size_of;
+use numbers::text_length;
+use text::last_place;
 use text::refusals;
 
 // A correction's answer: number, line and column, 0 each where it is applied; the places of the cells to write are then the others.

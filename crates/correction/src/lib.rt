@@ -7,10 +7,7 @@ use text::Span;
 
 mod deciding;
 mod list_lines;
-mod numbers;
 mod writing;
-
-pub use numbers::size_of;
 
 // A correction: the measurement at a row and column, counted from 1, set to so many millionths, written with so many decimals, and to a flag, which is 0
 // where the column has no flag column.

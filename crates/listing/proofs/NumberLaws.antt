@@ -8,7 +8,7 @@ use native.Mathlib.Nat.{pow-suc, one-le-pow, pow-le-pow-right}
 use lib.Dec.{ltb}
 use borrow.Author.Tests.{lt-ltb, le-ltb, ltb-true, ltb-false}
 use Rattle.io.specs.Digits.{glyph, digits, Fewest}
-use Rattle.correction.specs.Texts.{wholeDigits, wholeText}
+use Rattle.numbers.specs.Texts.{wholeDigits, wholeText}
 
 digit-glyph : (d : ℕ) → d < 10 → glyph d ≡ 48 + d
 digit-glyph d h = rw (lt-ltb d 10 h)

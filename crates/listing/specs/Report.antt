@@ -12,8 +12,8 @@ use Rattle.exchange.specs.declared.Checked.{Checked}
 use Rattle.exchange.specs.declared.ProfileRecord.{ProfileRecord}
 use Rattle.exchange.specs.Answers.{checkedOf}
 use Rattle.exchange.specs.Records.{profileOf, stationedOf, stationPlace}
-use Rattle.correction.specs.Texts.{wholeText}
-use Rattle.correction.specs.Corrections.{textAt}
+use Rattle.numbers.specs.Texts.{wholeText}
+use Rattle.numbers.specs.Patches.{textAt}
 
 -- a field after the first: a tab and its text
 abbrev pub field : List ℕ → List ℕ

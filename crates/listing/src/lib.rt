@@ -1,8 +1,8 @@
 // The text of the report on a file. Texts are laid out in room that the caller lends, as far as it goes; each call answers where its text ends.
 ghost use mathlib.Core.Path.{_≡_};
-ghost use Rattle.correction.specs.Texts.{wholeText};
 ghost use Rattle.listing.specs.Pages.{page, layByte, lay};
 ghost use Rattle.listing.specs.Report.{reportOf};
+ghost use Rattle.numbers.specs.Texts.{wholeText};
 use crate::accounts::put_accepted;
 use crate::accounts::put_profiles;
 use crate::accounts::put_refused;

@@ -21,9 +21,9 @@ fn field(out: &mut [u8], from: usize, n: u64) -> usize {
 fn signed_field(out: &mut [u8], from: usize, n: i64) -> usize {
     if n < 0 {
         let at = put(out, from, b" -");
-        return put_number(out, at, correction::size_of(n));
+        return put_number(out, at, numbers::size_of(n));
     }
-    field(out, from, correction::size_of(n))
+    field(out, from, numbers::size_of(n))
 }
 
 // So many hexadecimal digits.

@@ -6,10 +6,10 @@ use mathlib.Core.Bool.{cond, not}
 use lib.ListN.{length}
 use lib.Dec.{ltb}
 use Rattle.exchange.specs.declared.Located.{Located}
+use Rattle.numbers.specs.Texts.{numberText}
 use Rattle.correction.specs.declared.Order.{Order}
 use Rattle.correction.specs.declared.Answer.the-variants.{Applied, Refused}
 use Rattle.correction.specs.declared.deciding.Decision.{Decision}
-use Rattle.correction.specs.Texts.{numberText}
 use Rattle.correction.specs.Corrections.{badNumber, wrongFlag, Test, test, answerOf, filled, correctedOf}
 use Rattle.correction.specs.Inner.Writing.{Writes, fillsAt}
 

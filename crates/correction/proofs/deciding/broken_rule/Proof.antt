@@ -24,12 +24,12 @@ size-of-requires : tie.Need-size-of-requires
 size-of-requires c κs = search needs
 
 text-length-requires : tie.Need-text-length-requires
-text-length-requires c κs = number-few (c .before .before .before .before .before .before .before .before .before .before .before .args .order) _ (c .before .before .before .before .before .before .before .before .wrong-number .ensures) (c .before .before .before .before .before .before .before .if2 .left)
+text-length-requires c κs = search needs
 
 returns-4 : tie.Need-returns-4
 returns-4 c =
     let o = c .before .before .before .before .before .before .before .before .before .before .before .before .before .before .args .order in
-    let longer = text-longer o (record { sfits = c .before .before .before .before .struct-told2 .given .1 .1 .0 .1 }) _ (c .before .before .before .size-of .ensures) _ _ (c .before .before .text-length .ensures) (c .if4 .taken) in
+    let longer = text-longer o (record { sfits = c .before .before .before .before .struct-told2 .given .1 .1 .0 .1 }) _ (c .before .before .before .size-of .ensures) _ _ (number-few o _ (c .before .before .before .before .before .before .before .before .before .before .before .wrong-number .ensures) (c .before .before .before .before .before .before .before .before .before .before .if2 .left)) (c .before .before .text-length .ensures) (c .if4 .taken) in
     number-later _ _ (c .before .before .before .before .before .before .before .before .before .before .before .before .if1 .left)
     (number-later _ _ (sym (c .before .before .before .before .before .before .before .before .before .before .before .wrong-number .ensures) ∙ c .before .before .before .before .before .before .before .before .before .before .if2 .left)
     (number-later _ _ (sym (c .before .before .before .before .before .before .before .before .before .wrong-flag .ensures) ∙ c .before .before .before .before .before .before .before .before .if3 .left)
@@ -38,7 +38,7 @@ returns-4 c =
 returns-5 : tie.Need-returns-5
 returns-5 c =
     let o = c .before .before .before .before .before .before .before .before .before .before .before .before .before .before .args .order in
-    let longer = text-fits o (record { sfits = c .before .before .before .before .struct-told2 .given .1 .1 .0 .1 }) _ (c .before .before .before .size-of .ensures) _ _ (c .before .before .text-length .ensures) (c .if4 .left) in
+    let longer = text-fits o (record { sfits = c .before .before .before .before .struct-told2 .given .1 .1 .0 .1 }) _ (c .before .before .before .size-of .ensures) _ _ (number-few o _ (c .before .before .before .before .before .before .before .before .before .before .before .wrong-number .ensures) (c .before .before .before .before .before .before .before .before .before .before .if2 .left)) (c .before .before .text-length .ensures) (c .if4 .left) in
     number-later _ _ (c .before .before .before .before .before .before .before .before .before .before .before .before .if1 .left)
     (number-later _ _ (sym (c .before .before .before .before .before .before .before .before .before .before .before .wrong-number .ensures) ∙ c .before .before .before .before .before .before .before .before .before .before .if2 .left)
     (number-later _ _ (sym (c .before .before .before .before .before .before .before .before .before .wrong-flag .ensures) ∙ c .before .before .before .before .before .before .before .before .if3 .left)

@@ -1,5 +1,5 @@
 use borrow.Author.Needs.{needs}
-use Rattle.correction.proofs.WriteLaws.{place-some}
+use Rattle.numbers.proofs.PutLaws.{place-some}
 use Rattle.correction.proofs.DecideLaws.{number-fine, number-large, number-exact}
 use Rattle.correction.proofs.deciding.wrong_number.Statement.{statement}
 use Rattle.correction.proofs.deciding.wrong_number.Tie as tie

@@ -1,0 +1,5 @@
+pub mod DigitLaws
+pub mod PatchLaws
+pub mod PutLaws
+pub mod SizeLaws
+pub mod TextLaws
