@@ -10,13 +10,13 @@ use lib.ListN.{length, getD}
 use lib.Dec.{eqb, ltb}
 use lib.IntN.{ℤ}
 use borrow.Author.Tests.{eqb-true, eqb-false, ltb-true, ltb-false}
-use Rattle.text.specs.Cells.{pieces, lineAt, cellAt, next}
-use Rattle.text.specs.Spaces.{lead, back, trim}
+use Rattle.text.specs.Cells.{pieces, lineAt, cellAt, cellEnd}
+use Rattle.text.specs.Spaces.{trimFront, trimEnd, trim}
 use Rattle.text.specs.Names.{isName}
 use Rattle.text.specs.Judge.{judge}
-use Rattle.text.specs.Rows.{isGood, sizeOf}
-use Rattle.text.specs.Scans.{Stop}
-use Rattle.text.proofs.CellLaws.{end-feed, next-from, next-within, next-parts, cell-end, pieces-last, pieces-more}
+use Rattle.text.specs.Verdicts.{isGood, sizeOf}
+use Rattle.text.specs.Inner.Scans.{Stop}
+use Rattle.text.proofs.CellLaws.{end-feed, cellEnd-from, cellEnd-within, cellEnd-parts, cell-end, pieces-last, pieces-more}
 use Rattle.exchange.specs.ColumnWords.{Ends}
 use Rattle.exchange.proofs.CellsLaws.{ends-stop, ends-before, ends-moved}
 use Rattle.correction.specs.declared.ListLine.{ListLine}
@@ -36,36 +36,36 @@ fields s i = pieces 9 (lineAt s i)
 -- the field at i is the last, and the one at j is empty; or the one at j is the next
 pub data Fields (s : List ℕ) (i j : ℕ) : Type 0 where
   last : fields s i ≡ field s i ∷ [] → field s j ≡ [] → Fields s i j
-  more : j ≡ next 9 s i + 1 → fields s i ≡ field s i ∷ fields s j → Fields s i j
+  more : j ≡ cellEnd 9 s i + 1 → fields s i ≡ field s i ∷ fields s j → Fields s i j
 
 module _ {s : List ℕ} {i e : ℕ} (t : Ends s i e) where
   pub tabs-stop : Stop 9 s i e
   tabs-stop = record { inside = omega (arith, t .far); room = t .room; feed = ends-stop t .feed; parts = refl }
 
-  pub fields-end : next 9 s i ≡ e → fields s i ≡ field s i ∷ []
+  pub fields-end : cellEnd 9 s i ≡ e → fields s i ≡ field s i ∷ []
   fields-end q = pieces-last tabs-stop (rw q (tabs-stop .feed))
 
-  pub fields-on : next 9 s i < e → fields s i ≡ field s i ∷ fields s (next 9 s i + 1)
-  fields-on h = pieces-more tabs-stop (λ z. omega arith) (next-parts tabs-stop (ends-before (ends-moved t (next-from 9 s i) (omega arith)) h))
+  pub fields-on : cellEnd 9 s i < e → fields s i ≡ field s i ∷ fields s (cellEnd 9 s i + 1)
+  fields-on h = pieces-more tabs-stop (λ z. omega arith) (cellEnd-parts tabs-stop (ends-before (ends-moved t (cellEnd-from 9 s i) (omega arith)) h))
 
-  next-short : eqb (next 9 s i) e ≡ false → next 9 s i < e
-  next-short f = ⊎-elim (λ (q : next 9 s i ≡ e). absurd (eqb-false (next 9 s i) e f q)) (λ (l : next 9 s i < e). l) (eq-or-lt-of-le (next-within tabs-stop))
+  next-short : eqb (cellEnd 9 s i) e ≡ false → cellEnd 9 s i < e
+  next-short f = ⊎-elim (λ (q : cellEnd 9 s i ≡ e). absurd (eqb-false (cellEnd 9 s i) e f q)) (λ (l : cellEnd 9 s i < e). l) (eq-or-lt-of-le (cellEnd-within tabs-stop))
 
-  pub after-ends : Ends s (after (next 9 s i) e) e
-  after-ends = go (ltb (next 9 s i) e) refl
+  pub after-ends : Ends s (after (cellEnd 9 s i) e) e
+  after-ends = go (ltb (cellEnd 9 s i) e) refl
     where
-      go : (z : Bool) → ltb (next 9 s i) e ≡ z → Ends s (cond z (next 9 s i + 1) (next 9 s i)) e
-      go true h = let l = ltb-true (next 9 s i) e h in ends-moved t (omega (arith, next-from 9 s i)) (omega arith)
-      go false h = ends-moved t (next-from 9 s i) (next-within tabs-stop)
+      go : (z : Bool) → ltb (cellEnd 9 s i) e ≡ z → Ends s (cond z (cellEnd 9 s i + 1) (cellEnd 9 s i)) e
+      go true h = let l = ltb-true (cellEnd 9 s i) e h in ends-moved t (omega (arith, cellEnd-from 9 s i)) (omega arith)
+      go false h = ends-moved t (cellEnd-from 9 s i) (cellEnd-within tabs-stop)
 
-  pub after-fields : Fields s i (after (next 9 s i) e)
-  after-fields = go (ltb (next 9 s i) e) refl
+  pub after-fields : Fields s i (after (cellEnd 9 s i) e)
+  after-fields = go (ltb (cellEnd 9 s i) e) refl
     where
-      go : (z : Bool) → ltb (next 9 s i) e ≡ z → Fields s i (cond z (next 9 s i + 1) (next 9 s i))
-      go true h = more refl (fields-on (ltb-true (next 9 s i) e h))
+      go : (z : Bool) → ltb (cellEnd 9 s i) e ≡ z → Fields s i (cond z (cellEnd 9 s i + 1) (cellEnd 9 s i))
+      go true h = more refl (fields-on (ltb-true (cellEnd 9 s i) e h))
       go false h =
-          let q : next 9 s i ≡ e = omega (arith, ltb-false (next 9 s i) e h, next-within tabs-stop) in
-          last (fields-end q) (cell-end s (next 9 s i) (omega (arith, t .room)) 9 (end-feed 9 (getD s (next 9 s i) 0) (rw q (tabs-stop .feed))))
+          let q : cellEnd 9 s i ≡ e = omega (arith, ltb-false (cellEnd 9 s i) e h, cellEnd-within tabs-stop) in
+          last (fields-end q) (cell-end s (cellEnd 9 s i) (omega (arith, t .room)) 9 (end-feed 9 (getD s (cellEnd 9 s i) 0) (rw q (tabs-stop .feed))))
 
 -- ---- the four fields
 unfoldable pub allGood : List ℕ → List ℕ → List ℕ → List ℕ → Bool
@@ -81,11 +81,11 @@ good-name r d g = go (isRow r)
     go false = refl
 
 good-decimal : (r n g : List ℕ) → allGood r n [] g ≡ false
-unfolding allGood judge trim back lead
+unfolding allGood judge trim trimEnd trimFront
 good-decimal r n g = and-false (isRow r && isName n)
 
 good-flag : (r n d : List ℕ) → allGood r n d [] ≡ false
-unfolding allGood trim back lead
+unfolding allGood trim trimEnd trimFront
 good-flag r n d = rw (and-false (isGood (decimalIn d))) (and-false (isRow r && isName n))
 
 -- what they read as, the name starting at a
@@ -106,25 +106,25 @@ goodAt s a b c = allGood (field s 0) (field s a) (field s b) (field s c)
 abbrev pub lineWith : List ℕ → ℕ → ℕ → ℕ → ListLine
 lineWith s a b c = lineOf a (field s 0) (field s a) (field s b) (field s c)
 
-second-start : (s : List ℕ) (a : ℕ) → a ≡ next 9 s 0 + 1 → a ≡ length (field s 0) + 1
-unfolding next
+second-start : (s : List ℕ) (a : ℕ) → a ≡ cellEnd 9 s 0 + 1 → a ≡ length (field s 0) + 1
+unfolding cellEnd
 second-start s a h = omega (arith, h)
 
 module _ {s : List ℕ} {a b c e : ℕ} (t : Ends s c e) where
   pub four-fields : Fields s 0 a → Fields s a b → Fields s b c
-      → cond (goodAt s a b c && eqb (next 9 s c) e) (lineWith s a b c) malformed ≡ byFields (fields s 0)
+      → cond (goodAt s a b c && eqb (cellEnd 9 s c) e) (lineWith s a b c) malformed ≡ byFields (fields s 0)
   four-fields (last p q) y z = rw (q, good-name (field s 0) (field s b) (field s c)) (sym (ap byFields p))
   four-fields (more h p) (last q u) z = rw (u, good-decimal (field s 0) (field s a) (field s c)) (sym (ap byFields (p ∙ ap (_∷_ (field s 0)) q)))
   four-fields (more h p) (more k q) (last v w) =
       rw (w, good-flag (field s 0) (field s a) (field s b)) (sym (ap byFields (p ∙ ap (_∷_ (field s 0)) (q ∙ ap (_∷_ (field s a)) v))))
-  four-fields (more h p) (more k q) (more l v) = go (eqb (next 9 s c) e) refl ∙ sym (ap byFields (p ∙ ap (_∷_ (field s 0)) (q ∙ ap (_∷_ (field s a)) v)))
+  four-fields (more h p) (more k q) (more l v) = go (eqb (cellEnd 9 s c) e) refl ∙ sym (ap byFields (p ∙ ap (_∷_ (field s 0)) (q ∙ ap (_∷_ (field s a)) v)))
     where
-      go : (z : Bool) → eqb (next 9 s c) e ≡ z
+      go : (z : Bool) → eqb (cellEnd 9 s c) e ≡ z
           → cond (goodAt s a b c && z) (lineWith s a b c) malformed ≡ byFields (field s 0 ∷ field s a ∷ field s b ∷ fields s c)
       go true f =
           rw (and-true (goodAt s a b c))
           (fields-line a (field s 0) (field s a) (field s b) (field s c) (second-start s a h)
-          ∙ sym (ap (λ (l : List (List ℕ)). byFields (field s 0 ∷ field s a ∷ field s b ∷ l)) (fields-end t (eqb-true (next 9 s c) e f))))
+          ∙ sym (ap (λ (l : List (List ℕ)). byFields (field s 0 ∷ field s a ∷ field s b ∷ l)) (fields-end t (eqb-true (cellEnd 9 s c) e f))))
       go false f =
           rw (and-false (goodAt s a b c))
           (sym (ap (λ (l : List (List ℕ)). byFields (field s 0 ∷ field s a ∷ field s b ∷ l)) (fields-on t (next-short t f))))

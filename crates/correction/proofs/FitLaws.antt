@@ -10,10 +10,10 @@ use lib.IntN.{ℤ}
 use borrow.Author.Tests.{leb-true, ltb-true, ltb-false, eqb-true, not-false}
 use Rattle.text.specs.Bytes.{every}
 use Rattle.text.specs.Names.{beginsCtd}
-use Rattle.text.specs.Decimals.{Verdict, blank, wrong, outOfRange, good}
-use Rattle.text.specs.Spaces.{lead, back, trim}
-use Rattle.text.specs.Judge.{kindOf, judge}
-use Rattle.text.specs.Rows.{isGood}
+use Rattle.text.specs.Verdicts.{Verdict, blank, wrong, outOfRange, good, isGood}
+use Rattle.text.specs.Spaces.{trimFront, trimEnd, trim}
+use Rattle.text.specs.Kinds.{kindOf}
+use Rattle.text.specs.Judge.{judge}
 use Rattle.text.proofs.EveryLaws.{every-cons}
 use Rattle.text.proofs.LineLaws as line
 use Rattle.exchange.specs.Faults.{clean, _then_, unless, kindFault, firstOf}
@@ -152,7 +152,7 @@ row-good ks ts i e h =
     cell-good ks ts 1 i (w .1) (cells-many ks ts e) h
 
 flag-some : (ctd : Bool) (x : List ℕ) → isGood (judge (kindOf (cond ctd 5 4)) x) ≡ true → 1 ≤ length x
-unfolding judge kindOf trim lead back
+unfolding judge kindOf trim trimFront trimEnd
 flag-some true [] e = absurd (false≢true e)
 flag-some false [] e = absurd (false≢true e)
 flag-some ctd (y ∷ x) e = omega arith

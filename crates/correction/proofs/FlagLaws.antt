@@ -4,9 +4,10 @@ use mathlib.Core.Path.{_≡_}
 use mathlib.Core.Bool.{Bool, true, false, cond, not, _&&_}
 use native.Mathlib.Omega.{arith}
 use lib.Dec.{eqb, leb}
-use borrow.Author.Tests.{ne-eqb, leb-true, not-true}
-use Rattle.text.specs.Decimals.{good}
-use Rattle.text.specs.Judge.{kindOf, judge, ofKind, wholeOf, inFlags}
+use borrow.Author.Tests.{leb-true}
+use Rattle.text.specs.Verdicts.{good}
+use Rattle.text.specs.Kinds.{kindOf}
+use Rattle.text.specs.Judge.{judge, ofKind, wholeOf, inFlags}
 use Rattle.text.proofs.CellLaws.{both-true}
 use Rattle.numbers.specs.Texts.{flagText, atRight}
 use Rattle.numbers.proofs.TextLaws.{flag-whole, flag-trim}
@@ -21,7 +22,7 @@ flag-in ctd v h =
 flag-range : (ctd : Bool) (v : ℕ) → inSet ctd v ≡ true → inFlags ctd (wholeOf 1 (flagText v)) ≡ good false v 0
 flag-range ctd v h =
     let k = flag-in ctd v h in
-    rw (flag-whole v (k .1)) (rw (ne-eqb v 0 (omega arith), not-true (ctd && eqb v 8) (k .2)))
+    rw (flag-whole v (k .1)) (rw h)
 
 pub flag-judged : (ctd : Bool) (v w : ℕ) → inSet ctd v ≡ true → 1 ≤ w → judge (kindOf (cond ctd 5 4)) (atRight w (flagText v)) ≡ good false v 0
 unfolding judge kindOf ofKind

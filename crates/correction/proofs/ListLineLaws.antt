@@ -10,17 +10,15 @@ use lib.IntN.{ℤ}
 use mir.Syntax.{w64}
 use mir.Val.{toZ, ofZ}
 use Rattle.text.specs.declared.Judged.{Judged}
-use Rattle.text.specs.Cells.{firstPiece, laterPieces, pieces, next}
-use Rattle.text.specs.Spaces.{lead, back, trim}
+use Rattle.text.specs.Cells.{firstPiece, laterPieces, pieces, cellEnd}
+use Rattle.text.specs.Spaces.{trimFront, trimEnd, trim}
 use Rattle.text.specs.Names.{isName}
-use Rattle.text.specs.Decimals.{Verdict, blank, wrong, outOfRange, good}
-use Rattle.text.specs.Judge.{kindOf, judgedOf, judgedAt, wholeAt}
-use Rattle.text.specs.Rows.{isGood}
-use Rattle.text.specs.Reading.{signed}
-use Rattle.text.specs.Scans.{isEnd}
-use Rattle.text.proofs.CellLaws.{next-from, next-within, cell-in, cell-end}
+use Rattle.text.specs.Verdicts.{Verdict, blank, wrong, outOfRange, good, isGood, signed}
+use Rattle.text.specs.Kinds.{kindOf}
+use Rattle.text.specs.Judge.{judgedOf, judgedAt, wholeAt}
+use Rattle.text.proofs.CellLaws.{isEnd, cellEnd-from, cellEnd-within, cell-in, cell-end}
 use Rattle.text.proofs.SpaceLaws.{slice-take}
-use Rattle.text.proofs.JudgeLaws.{judged-stop, judged-next, whole-stop, whole-next}
+use Rattle.text.proofs.JudgeLaws.{judged-stop, judged-end, whole-stop, whole-end}
 use Rattle.text.proofs.ReadingLaws.{signed-small, number-back}
 use Rattle.exchange.specs.ColumnWords.{Ends}
 use Rattle.exchange.proofs.CellsLaws.{cell-slice}
@@ -62,7 +60,7 @@ listed-same a e f g h i = rw (e, f, g, h, i)
 
 -- a row's first byte is the line's
 row-first : (s : List ℕ) → 0 < length s → (isGood (whole 7 (field s 0)) && not (eqb (getD s 0 0) 48)) ≡ isRow (field s 0)
-unfolding trim back lead
+unfolding trim trimEnd trimFront
 row-first s l = go (isEnd 9 (getD s 0 0)) refl
   where
     go : (z : Bool) → isEnd 9 (getD s 0 0) ≡ z → (isGood (whole 7 (field s 0)) && not (eqb (getD s 0 0) 48)) ≡ isRow (field s 0)
@@ -72,71 +70,71 @@ row-first s l = go (isEnd 9 (getD s 0 0)) refl
 -- ---- the code's values: the row and the name
 module _ {s : List ℕ} {e : ℕ} (t : Ends s 0 e) {row name : Judged} {a : ℕ}
     (w1 : row ≡ wholeAt 7 9 s 0 e) (h1 : a ≡ after (row .at) e) (w2 : name ≡ judgedAt 11 9 s a e) where
-  row-is : row ≡ judgedOf (next 9 s 0) (whole 7 (field s 0))
+  row-is : row ≡ judgedOf (cellEnd 9 s 0) (whole 7 (field s 0))
   row-is = w1 ∙ whole-stop (tabs-stop t) 7 (omega arith)
 
-  name-at : a ≡ after (next 9 s 0) e
-  name-at = h1 ∙ ap (λ (x : ℕ). after x e) (ap (λ (x : Judged). x .at) w1 ∙ whole-next (tabs-stop t) 7 (omega arith))
+  name-at : a ≡ after (cellEnd 9 s 0) e
+  name-at = h1 ∙ ap (λ (x : ℕ). after x e) (ap (λ (x : Judged). x .at) w1 ∙ whole-end (tabs-stop t) 7 (omega arith))
 
   name-ends : Ends s a e
   name-ends = rw name-at (after-ends t)
 
-  name-next : name .at ≡ next 9 s a
-  name-next = ap (λ (x : Judged). x .at) w2 ∙ judged-next (tabs-stop name-ends) 11
+  name-next : name .at ≡ cellEnd 9 s a
+  name-next = ap (λ (x : Judged). x .at) w2 ∙ judged-end (tabs-stop name-ends) 11
 
   pub name-from : a ≤ name .at
-  name-from = rw name-next (next-from 9 s a)
+  name-from = rw name-next (cellEnd-from 9 s a)
 
   pub name-to : name .at ≤ length s
-  name-to = rw name-next (omega (arith, next-within (tabs-stop name-ends), t .room))
+  name-to = rw name-next (omega (arith, cellEnd-within (tabs-stop name-ends), t .room))
 
   name-text : take (name .at - a) (drop a s) ≡ field s a
-  name-text = rw name-next (sym (slice-take a (next 9 s a) s) ∙ cell-slice 9 s a)
+  name-text = rw name-next (sym (slice-take a (cellEnd 9 s a) s) ∙ cell-slice 9 s a)
 
   name-length : name .at - a ≡ length (field s a)
-  unfolding next
+  unfolding cellEnd
   name-length = omega (arith, name-next)
 
   -- the decimal and the flag
   module _ {value flag : Judged} {b c : ℕ} (h2 : b ≡ after (name .at) e) (w3 : value ≡ judgedAt 0 9 s b e)
       (h3 : c ≡ after (value .at) e) (w4 : flag ≡ wholeAt 1 9 s c e) where
-    value-at : b ≡ after (next 9 s a) e
+    value-at : b ≡ after (cellEnd 9 s a) e
     value-at = h2 ∙ ap (λ (x : ℕ). after x e) name-next
 
     value-ends : Ends s b e
     value-ends = rw value-at (after-ends name-ends)
 
-    value-is : value ≡ judgedOf (next 9 s b) (decimalIn (field s b))
+    value-is : value ≡ judgedOf (cellEnd 9 s b) (decimalIn (field s b))
     unfolding kindOf
     value-is = w3 ∙ judged-stop (tabs-stop value-ends) 0
 
-    flag-at : c ≡ after (next 9 s b) e
-    flag-at = h3 ∙ ap (λ (x : ℕ). after x e) (ap (λ (x : Judged). x .at) w3 ∙ judged-next (tabs-stop value-ends) 0)
+    flag-at : c ≡ after (cellEnd 9 s b) e
+    flag-at = h3 ∙ ap (λ (x : ℕ). after x e) (ap (λ (x : Judged). x .at) w3 ∙ judged-end (tabs-stop value-ends) 0)
 
     flag-ends : Ends s c e
     flag-ends = rw flag-at (after-ends value-ends)
 
-    flag-is : flag ≡ judgedOf (next 9 s c) (whole 1 (field s c))
+    flag-is : flag ≡ judgedOf (cellEnd 9 s c) (whole 1 (field s c))
     flag-is = w4 ∙ whole-stop (tabs-stop flag-ends) 1 (omega arith)
 
-    flag-next : flag .at ≡ next 9 s c
-    flag-next = ap (λ (x : Judged). x .at) w4 ∙ whole-next (tabs-stop flag-ends) 1 (omega arith)
+    flag-next : flag .at ≡ cellEnd 9 s c
+    flag-next = ap (λ (x : Judged). x .at) w4 ∙ whole-end (tabs-stop flag-ends) 1 (omega arith)
 
-    parts : cond (goodAt s a b c && eqb (next 9 s c) e) (lineWith s a b c) malformed ≡ byFields (fields s 0)
+    parts : cond (goodAt s a b c && eqb (cellEnd 9 s c) e) (lineWith s a b c) malformed ≡ byFields (fields s 0)
     parts = four-fields {a = a} {b = b} flag-ends (rw name-at (after-fields t)) (rw value-at (after-fields name-ends)) (rw flag-at (after-fields value-ends))
 
     abbrev passes : Bool → Bool
     passes q = eqb (row .number) 0 && not (eqb (getD s 0 0) 48) && q && (eqb (value .number) 0 && eqb (flag .number) 0) && eqb (flag .at) e
 
-    passes-all : (q : Bool) → q ≡ isName (take (name .at - a) (drop a s)) → passes q ≡ (goodAt s a b c && eqb (next 9 s c) e)
+    passes-all : (q : Bool) → q ≡ isName (take (name .at - a) (drop a s)) → passes q ≡ (goodAt s a b c && eqb (cellEnd 9 s c) e)
     unfolding allGood
     passes-all q h =
         tests-same
-        (ap (λ (x : Bool). x && not (eqb (getD s 0 0) 48)) (ap (λ (x : Judged). eqb (x .number) 0) row-is ∙ record-good (next 9 s 0) (whole 7 (field s 0)))
+        (ap (λ (x : Bool). x && not (eqb (getD s 0 0) 48)) (ap (λ (x : Judged). eqb (x .number) 0) row-is ∙ record-good (cellEnd 9 s 0) (whole 7 (field s 0)))
         ∙ row-first s (omega (arith, t .room)))
         (h ∙ ap isName name-text)
-        (ap (λ (x : Judged). eqb (x .number) 0) value-is ∙ record-good (next 9 s b) (decimalIn (field s b)))
-        (ap (λ (x : Judged). eqb (x .number) 0) flag-is ∙ record-good (next 9 s c) (whole 1 (field s c)))
+        (ap (λ (x : Judged). eqb (x .number) 0) value-is ∙ record-good (cellEnd 9 s b) (decimalIn (field s b)))
+        (ap (λ (x : Judged). eqb (x .number) 0) flag-is ∙ record-good (cellEnd 9 s c) (whole 1 (field s c)))
         (ap (λ (x : ℕ). eqb x e) flag-next)
 
     pub fields-read : (q z : Bool) (m : ℤ) → q ≡ isName (take (name .at - a) (drop a s)) → m ≡ signed (value .minus) (value .size) → passes q ≡ z
@@ -144,11 +142,11 @@ module _ {s : List ℕ} {e : ℕ} (t : Ends s 0 e) {row name : Judged} {a : ℕ}
     fields-read q z m h f g =
         let same : listed (row .size) a (name .at - a) m (value .decimals) (flag .size) ≡ lineWith s a b c =
         listed-same a
-        (ap (λ (x : Judged). x .size) row-is ∙ size-anywhere (next 9 s 0) (whole 7 (field s 0)))
+        (ap (λ (x : Judged). x .size) row-is ∙ size-anywhere (cellEnd 9 s 0) (whole 7 (field s 0)))
         name-length
-        (f ∙ ap (λ (x : Judged). signed (x .minus) (x .size)) value-is ∙ record-millionths (next 9 s b) (decimalIn (field s b)))
-        (ap (λ (x : Judged). x .decimals) value-is ∙ record-decimals (next 9 s b) (decimalIn (field s b)))
-        (ap (λ (x : Judged). x .size) flag-is ∙ size-anywhere (next 9 s c) (whole 1 (field s c))) in
+        (f ∙ ap (λ (x : Judged). signed (x .minus) (x .size)) value-is ∙ record-millionths (cellEnd 9 s b) (decimalIn (field s b)))
+        (ap (λ (x : Judged). x .decimals) value-is ∙ record-decimals (cellEnd 9 s b) (decimalIn (field s b)))
+        (ap (λ (x : Judged). x .size) flag-is ∙ size-anywhere (cellEnd 9 s c) (whole 1 (field s c))) in
         rw (same, ← g, passes-all q h) parts
 
 -- ---- the whole line

@@ -9,10 +9,10 @@ use lib.Dec.{eqb}
 use lib.IntN.{ℤ}
 use borrow.Author.Tests.{lt-ltb}
 use Rattle.text.specs.Names.{beginsCtd}
-use Rattle.text.specs.Decimals.{Verdict, good}
-use Rattle.text.specs.Judge.{kindOf, judge, judgedOf}
+use Rattle.text.specs.Verdicts.{Verdict, good, sizeOf}
+use Rattle.text.specs.Kinds.{kindOf}
+use Rattle.text.specs.Judge.{judge, judgedOf}
 use Rattle.text.specs.Reading.{readNumber, readingOf}
-use Rattle.text.specs.Rows.{sizeOf}
 use Rattle.exchange.specs.Places.{Table, Outcome, accepted, refused, outcomeOf}
 use Rattle.exchange.specs.Profiles.{grid}
 use Rattle.exchange.specs.Answers.{kindAt, found, askedBy, askedOf, cellText, readingBy, readingFor, flaggedBy, flaggedOf}

@@ -12,9 +12,10 @@ use Rattle.text.specs.declared.Span.{Span}
 use Rattle.text.specs.Bytes.{bytes, equal}
 use Rattle.text.specs.Spaces.{trim}
 use Rattle.text.specs.Names.{parameterLength}
-use Rattle.text.specs.Judge.{kindOf, judge}
+use Rattle.text.specs.Kinds.{kindOf}
+use Rattle.text.specs.Judge.{judge}
 use Rattle.text.specs.Catalogue.{listed, base256, insert, ordered, flat, names, kinds, searchFrom, lookUp, kindIn}
-use Rattle.text.specs.Rows.{sizeOf}
+use Rattle.text.specs.Verdicts.{sizeOf}
 use Rattle.exchange.specs.Faults.{placeIn}
 use Rattle.exchange.specs.Headers.{Header}
 use Rattle.exchange.specs.Columns.{Sort, bottle, ctd, kindOfName, kindsOf}

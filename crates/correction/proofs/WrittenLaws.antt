@@ -10,9 +10,9 @@ use lib.Dec.{eqb, leb, ltb}
 use borrow.Author.Tests.{le-leb, leb-true, leb-false, lt-ltb, le-ltb, ltb-true, ltb-false, eq-eqb, ne-eqb, eqb-true, eqb-false, not-false}
 use Rattle.text.specs.Bytes.{every}
 use Rattle.text.specs.Names.{beginsCtd}
-use Rattle.text.specs.Decimals.{wrong, outOfRange, good}
-use Rattle.text.specs.Judge.{kindOf, judge, ofKind, wholeOf, inFlags}
-use Rattle.text.specs.Rows.{isGood}
+use Rattle.text.specs.Verdicts.{wrong, outOfRange, good, isGood}
+use Rattle.text.specs.Kinds.{kindOf}
+use Rattle.text.specs.Judge.{judge, ofKind, wholeOf, inFlags}
 use Rattle.text.proofs.ScanLaws.{digit-high}
 use Rattle.text.proofs.SpaceLaws.{isSolid, trim-solid}
 use Rattle.exchange.specs.Columns.{Column, columnOf, columnsOf}

@@ -10,10 +10,9 @@ use Rattle.text.specs.Bytes.{isSpace, every}
 use Rattle.text.specs.Cells.{firstPiece, pieces}
 use Rattle.text.specs.Spaces.{trim}
 use Rattle.text.specs.Names.{isName}
-use Rattle.text.specs.Decimals.{Verdict, blank, wrong, outOfRange, good}
-use Rattle.text.specs.Judge.{measured, judge, wholeOf, unlessBlank}
-use Rattle.text.specs.Reading.{signed}
-use Rattle.text.specs.Rows.{isGood, sizeOf}
+use Rattle.text.specs.Verdicts.{Verdict, blank, wrong, outOfRange, good, signed, isGood, sizeOf}
+use Rattle.text.specs.Kinds.{measured}
+use Rattle.text.specs.Judge.{judge, wholeOf, unlessBlank}
 use Rattle.correction.specs.declared.ListLine.{ListLine}
 
 -- a refused line has zeros and an empty name at its start

@@ -3,8 +3,9 @@
 use mathlib.Core.Path.{_≡_}
 use mathlib.Core.Logic.{_↔_}
 use mathlib.Core.Bool.{true, false}
-use Rattle.text.specs.Decimals.{good}
-use Rattle.text.specs.Judge.{measured, judge}
+use Rattle.text.specs.Verdicts.{good}
+use Rattle.text.specs.Kinds.{measured}
+use Rattle.text.specs.Judge.{judge}
 use Rattle.exchange.specs.Places.{Table}
 use Rattle.exchange.specs.Located.{flagColumn, hasFlag}
 use Rattle.laws.specs.Promises.{columnKind}

@@ -13,14 +13,14 @@ use Rattle.text.specs.declared.Judged.{Judged}
 use Rattle.text.specs.declared.Reading.{Reading}
 use Rattle.text.specs.declared.Reading.the-variants.{Refused}
 use Rattle.text.specs.Spaces.{trimSpan}
-use Rattle.text.specs.Decimals.{Verdict, blank, wrong, outOfRange, good}
-use Rattle.text.specs.Judge.{kindOf, judge, judgedOf, judgedAt}
+use Rattle.text.specs.Verdicts.{Verdict, blank, wrong, outOfRange, good, sizeOf}
+use Rattle.text.specs.Kinds.{kindOf}
+use Rattle.text.specs.Judge.{judge, judgedOf, judgedAt}
 use Rattle.text.specs.Reading.{readingOf, readingAt}
-use Rattle.text.specs.Rows.{sizeOf}
 use Rattle.text.proofs.JudgeLaws.{judged-stop}
 use Rattle.text.proofs.SpaceLaws.{span-fits}
-use Rattle.text.specs.Cells.{pieces, lineAt, cellAt, next}
-use Rattle.text.specs.Scans.{Stop}
+use Rattle.text.specs.Cells.{pieces, lineAt, cellAt, cellEnd}
+use Rattle.text.specs.Inner.Scans.{Stop}
 use Rattle.text.proofs.CellLaws.{stop-moved}
 use Rattle.exchange.specs.declared.survey.Survey.{Survey}
 use Rattle.exchange.specs.declared.asking.Cell.{Cell}
@@ -219,21 +219,21 @@ module _ (s : List ℕ) (r c : ℕ) (x : Cell) (w : AskedRead s r c x) where
     cell : CellRead s r c (w .on z .0) x
     cell = w .on z .1
 
-    judged-is : judgedAt (x .kind) 44 s (x .start) (x .feed) ≡ judgedOf (next 44 s (x .start)) (judge (kindOf (kindAt (w .on z .0) c)) (cellText (w .on z .0) s r c))
-    judged-is = judged-stop (cell .stop) (x .kind) ∙ ap (λ (k : ℕ). judgedOf (next 44 s (x .start)) (judge (kindOf k) (cellAt 44 s (x .start)))) (cell .kind)
-        ∙ ap (λ (t : List ℕ). judgedOf (next 44 s (x .start)) (judge (kindOf (kindAt (w .on z .0) c)) t)) (cell .text)
+    judged-is : judgedAt (x .kind) 44 s (x .start) (x .feed) ≡ judgedOf (cellEnd 44 s (x .start)) (judge (kindOf (kindAt (w .on z .0) c)) (cellText (w .on z .0) s r c))
+    judged-is = judged-stop (cell .stop) (x .kind) ∙ ap (λ (k : ℕ). judgedOf (cellEnd 44 s (x .start)) (judge (kindOf k) (cellAt 44 s (x .start)))) (cell .kind)
+        ∙ ap (λ (t : List ℕ). judgedOf (cellEnd 44 s (x .start)) (judge (kindOf (kindAt (w .on z .0) c)) t)) (cell .text)
 
     pub read-reading : (y : Reading) → y ≡ readingAt (x .kind) 44 s (x .start) (x .feed) → y ≡ readingFor s r c
     unfolding readingFor readingAt
     read-reading y e =
-        e ∙ ap (readingOf (x .kind)) judged-is ∙ ap (λ (k : ℕ). readingOf k (judgedOf (next 44 s (x .start)) (judge (kindOf (kindAt (w .on z .0) c)) (cellText (w .on z .0) s r c)))) (cell .kind)
-        ∙ reading-anywhere (kindAt (w .on z .0) c) (next 44 s (x .start)) (judge (kindOf (kindAt (w .on z .0) c)) (cellText (w .on z .0) s r c)) ∙ sym (ap (readingBy s r c) (cell .asked))
+        e ∙ ap (readingOf (x .kind)) judged-is ∙ ap (λ (k : ℕ). readingOf k (judgedOf (cellEnd 44 s (x .start)) (judge (kindOf (kindAt (w .on z .0) c)) (cellText (w .on z .0) s r c)))) (cell .kind)
+        ∙ reading-anywhere (kindAt (w .on z .0) c) (cellEnd 44 s (x .start)) (judge (kindOf (kindAt (w .on z .0) c)) (cellText (w .on z .0) s r c)) ∙ sym (ap (readingBy s r c) (cell .asked))
 
     pub read-flag : (eqb (x .kind) 4 || eqb (x .kind) 5) ≡ true → (j : Judged) → j ≡ judgedAt (x .kind) 44 s (x .start) (x .feed) → _≡_ {A = Flagged} (record { number = 0; line = 0; column = 0; flag = j .size }) (flaggedOf s r c)
     unfolding flaggedOf
     read-flag b j e =
         let f : j .size ≡ sizeOf (judge (kindOf (kindAt (w .on z .0) c)) (cellText (w .on z .0) s r c)) =
-        ap (λ (y : Judged). y .size) (e ∙ judged-is) ∙ size-anywhere (next 44 s (x .start)) (judge (kindOf (kindAt (w .on z .0) c)) (cellText (w .on z .0) s r c)) in
+        ap (λ (y : Judged). y .size) (e ∙ judged-is) ∙ size-anywhere (cellEnd 44 s (x .start)) (judge (kindOf (kindAt (w .on z .0) c)) (cellText (w .on z .0) s r c)) in
         rw (cell .asked, f) (rw (ap (λ (k : ℕ). eqb k 4 || eqb k 5) (sym (cell .kind)) ∙ b))
 
     pub read-other : (eqb (x .kind) 4 || eqb (x .kind) 5) ≡ false → _≡_ {A = Flagged} (record { number = 22; line = 0; column = 0; flag = 0 }) (flaggedOf s r c)

@@ -12,10 +12,10 @@ use lib.Seq.{slice, take-suc, take-take, drop-drop, getD-drop, getD-set-same, ge
 use lib.Dec.{eqb}
 use borrow.Author.Tests.{ne-eqb}
 use borrow.Author.Count.{below-more}
-use Rattle.text.specs.Cells.{firstPiece, laterPieces, pieces, lineAt, cellAt, next}
-use Rattle.text.specs.Spaces.{lead, back, trim}
-use Rattle.text.specs.Scans.{Stop}
-use Rattle.text.proofs.CellLaws.{line-in, line-end, next-from, next-within, next-parts, pieces-last, pieces-more}
+use Rattle.text.specs.Cells.{firstPiece, laterPieces, pieces, lineAt, cellAt, cellEnd}
+use Rattle.text.specs.Spaces.{trimFront, trimEnd, trim}
+use Rattle.text.specs.Inner.Scans.{Stop}
+use Rattle.text.proofs.CellLaws.{line-in, line-end, cellEnd-from, cellEnd-within, cellEnd-parts, pieces-last, pieces-more}
 use Rattle.text.proofs.SpaceLaws.{slice-take, span-bytes}
 use Rattle.exchange.specs.Columns.{namesOf}
 use Rattle.exchange.specs.Walks.{textIn, namesAt}
@@ -105,8 +105,8 @@ piece-take c (x ∷ xs) = go (eqb x c) (piece-take c xs)
 piece-short : (c : ℕ) (xs : List ℕ) → length (firstPiece c xs) ≤ length xs
 piece-short c xs = omega (arith, simp length-take at (ap length (piece-take c xs)))
 
-pub cell-slice : (c : ℕ) (s : List ℕ) (i : ℕ) → slice i (next c s i) s ≡ cellAt c s i
-unfolding next
+pub cell-slice : (c : ℕ) (s : List ℕ) (i : ℕ) → slice i (cellEnd c s i) s ≡ cellAt c s i
+unfolding cellEnd
 cell-slice c s i =
     let q : (i + length (cellAt c s i)) - i ≡ length (cellAt c s i) = omega arith in
     slice-take i (i + length (cellAt c s i)) s
@@ -152,15 +152,15 @@ module _ (s : List ℕ) (at e i n : ℕ) (starts ends : List ℕ) (w : Walked s 
   pub walked-more : n < length ts
   walked-more = omega (arith, rest-long ts n (cellAt 44 s i) (laterPieces 44 (lineAt s i)) (w .left))
 
-  module _ (h : n < 256) (q : ℕ) (eq : q ≡ next 44 s i) where
+  module _ (h : n < 256) (q : ℕ) (eq : q ≡ cellEnd 44 s i) where
     pub cell-within : q ≤ e
-    cell-within = rw eq (next-within (ends-stop (w .ends-at)))
+    cell-within = rw eq (cellEnd-within (ends-stop (w .ends-at)))
 
     pub cell-from : i ≤ q
-    cell-from = rw eq (next-from 44 s i)
+    cell-from = rw eq (cellEnd-from 44 s i)
 
     name-here : textIn s i q ≡ getD (namesOf (lineAt s at)) n []
-    unfolding trim lead back
+    unfolding trim trimFront trimEnd
     name-here =
         span-bytes s i q cell-from (omega (arith, cell-within, w .ends-at .room))
         ∙ ap trim (ap (λ (k : ℕ). slice i k s) eq ∙ cell-slice 44 s i ∙ sym (rest-first ts n (cellAt 44 s i) (laterPieces 44 (lineAt s i)) (w .left) []))
@@ -197,13 +197,13 @@ module _ (s : List ℕ) (at e i n : ℕ) (starts ends : List ℕ) (w : Walked s 
         omega (arith, rest-long ts n (cellAt 44 s i) [] (w .left ∙ l))
 
     pub walked-on : (q ≡ e → ⊥) → Walked s at e (q + 1) (n + 1) (set starts n i) (set ends n q)
-    unfolding next
+    unfolding cellEnd
     walked-on f =
         let m : q < e = ⊎-elim (λ (z : q ≡ e). absurd (f z)) (λ (z : q < e). z) (eq-or-lt-of-le cell-within) in
         let t = ends-moved (w .ends-at) cell-from cell-within in
-        let b : getD s (next 44 s i) 0 ≡ 10 → ⊥ = λ z. ends-before t m (ap (λ (p : ℕ). getD s p 0) eq ∙ z) in
-        let l = w .left ∙ pieces-more (ends-stop (w .ends-at)) (λ z. omega arith) (next-parts (ends-stop (w .ends-at)) b) in
-        let r = rest-later ts n (cellAt 44 s i) (pieces 44 (lineAt s (next 44 s i + 1))) l in
+        let b : getD s (cellEnd 44 s i) 0 ≡ 10 → ⊥ = λ z. ends-before t m (ap (λ (p : ℕ). getD s p 0) eq ∙ z) in
+        let l = w .left ∙ pieces-more (ends-stop (w .ends-at)) (λ z. omega arith) (cellEnd-parts (ends-stop (w .ends-at)) b) in
+        let r = rest-later ts n (cellAt 44 s i) (pieces 44 (lineAt s (cellEnd 44 s i + 1))) l in
         let start : startOf at ts (n + 1) ≡ startOf at ts n + length (cellAt 44 s i) + 1 =
         start-next at ts n walked-more ∙ ap (λ (x : List ℕ). startOf at ts n + length x + 1) (rest-first ts n (cellAt 44 s i) (laterPieces 44 (lineAt s i)) (w .left) []) in
         record {

@@ -13,7 +13,7 @@ use lib.Dec.{ltb, leb, eqb}
 use borrow.Author.Tests.{lt-ltb, le-ltb, ltb-true, eqb-true, eqb-false}
 use Rattle.text.specs.Bytes.{bytes, equal}
 use Rattle.text.specs.Cells.{pieces, lineAt}
-use Rattle.text.specs.Spaces.{lead, back, trim}
+use Rattle.text.specs.Spaces.{trimFront, trimEnd, trim}
 use Rattle.text.specs.Names.{isName, lastSeven, parameterLength, beginsCtd}
 use Rattle.text.specs.Catalogue.{names, kinds, kindIn}
 use Rattle.text.proofs.CellLaws.{both-true}
@@ -151,7 +151,7 @@ module _ (ts : List (List ℕ)) (k : ℕ) (h : k < length ts) where
   names-room = rw length-map h
 
   here-trim : trim (getD ts k []) ≡ getD (map trim ts) k []
-  unfolding trim lead back
+  unfolding trim trimFront trimEnd
   here-trim = sym (List·getD-map trim ts k [])
 
   take-one : take (k + 1) (map trim ts) ≡ take k (map trim ts) ++ getD (map trim ts) k [] ∷ []

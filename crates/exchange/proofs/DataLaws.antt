@@ -11,7 +11,7 @@ use Rattle.text.specs.declared.Span.{Span}
 use Rattle.text.specs.Bytes.{equal}
 use Rattle.text.specs.Cells.{lineAt, pieces}
 use Rattle.text.specs.Rows.{noKeys}
-use Rattle.text.specs.Scans.{Stop}
+use Rattle.text.specs.Inner.Scans.{Stop}
 use Rattle.exchange.specs.declared.lines.Line.{Line}
 use Rattle.exchange.specs.declared.rows.Row.{Row}
 use Rattle.exchange.specs.declared.rows.Data.{Data}

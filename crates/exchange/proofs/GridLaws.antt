@@ -10,10 +10,10 @@ use lib.ListN.{length, getD, drop, length-drop, length-map}
 use lib.Seq.{drop-drop, getD-drop}
 use lib.Dec.{eqb, ltb}
 use borrow.Author.Tests.{eqb-true, eqb-false, ltb-true, ltb-false, lt-ltb}
-use Rattle.text.specs.Cells.{firstPiece, laterPieces, pieces, lineAt, cellAt, next}
+use Rattle.text.specs.Cells.{firstPiece, laterPieces, pieces, lineAt, cellAt, cellEnd}
 use Rattle.text.specs.declared.Span.{Span}
-use Rattle.text.proofs.CellLaws.{stop-moved, stop-short, next-within, next-from, next-parts, pieces-last, pieces-more}
-use Rattle.text.specs.Scans.{Stop}
+use Rattle.text.proofs.CellLaws.{stop-moved, stop-short, cellEnd-within, cellEnd-from, cellEnd-parts, pieces-last, pieces-more}
+use Rattle.text.specs.Inner.Scans.{Stop}
 use Rattle.exchange.specs.Faults.{clean, breaks, _then_, unless, firstOf}
 use Rattle.exchange.specs.Columns.{kindOfName, kindsOf}
 use Rattle.exchange.specs.Rows.{rowList}
@@ -182,21 +182,21 @@ pub record SpanAt (s : List ℕ) (i e k : ℕ) : Type 0 where
 
 pub span-at : (k : ℕ) (s : List ℕ) (i e : ℕ) → Stop 44 s i e → k < length (pieces 44 (lineAt s i)) → SpanAt s i e k
 span-at zero s i e t h =
-    let f = span-first t (next 44 s i) refl in
+    let f = span-first t (cellEnd 44 s i) refl in
     record {
       inside = subst (λ (p : Span). p .start ≤ e) (sym f) (t .inside);
       text = ap (λ (p : Span). cellAt 44 s (p .start)) f;
-      room = subst (λ (p : Span). p .start + p .len ≤ e) (sym f) (omega (arith, next-within t, next-from 44 s i));
+      room = subst (λ (p : Span). p .start + p .len ≤ e) (sym f) (omega (arith, cellEnd-within t, cellEnd-from 44 s i));
     }
-span-at (suc k) s i e t h = by (eqb (getD s (next 44 s i) 0) 10) refl (span-at k s (next 44 s i + 1) e)
+span-at (suc k) s i e t h = by (eqb (getD s (cellEnd 44 s i) 0) 10) refl (span-at k s (cellEnd 44 s i + 1) e)
   where
-    by : (z : Bool) → eqb (getD s (next 44 s i) 0) 10 ≡ z → (Stop 44 s (next 44 s i + 1) e → k < length (pieces 44 (lineAt s (next 44 s i + 1))) → SpanAt s (next 44 s i + 1) e k) → SpanAt s i e (suc k)
-    by true q ih = absurd (omega (arith, h, ap length (pieces-last t (eqb-true (getD s (next 44 s i) 0) 10 q))))
+    by : (z : Bool) → eqb (getD s (cellEnd 44 s i) 0) 10 ≡ z → (Stop 44 s (cellEnd 44 s i + 1) e → k < length (pieces 44 (lineAt s (cellEnd 44 s i + 1))) → SpanAt s (cellEnd 44 s i + 1) e k) → SpanAt s i e (suc k)
+    by true q ih = absurd (omega (arith, h, ap length (pieces-last t (eqb-true (getD s (cellEnd 44 s i) 0) 10 q))))
     by false q ih =
-        let n = eqb-false (getD s (next 44 s i) 0) 10 q in
-        let p = pieces-more t (λ z. absurd (omega arith)) (next-parts t n) in
-        let f : cellSpan s i (suc k) ≡ cellSpan s (next 44 s i + 1) k = ap (cellSpan s i) (sym (add-one k)) ∙ span-more t k n in
-        let u = stop-short (stop-moved t (next-within t)) n in
+        let n = eqb-false (getD s (cellEnd 44 s i) 0) 10 q in
+        let p = pieces-more t (λ z. absurd (omega arith)) (cellEnd-parts t n) in
+        let f : cellSpan s i (suc k) ≡ cellSpan s (cellEnd 44 s i + 1) k = ap (cellSpan s i) (sym (add-one k)) ∙ span-more t k n in
+        let u = stop-short (stop-moved t (cellEnd-within t)) n in
         let w = ih (stop-moved t (omega (arith, u))) (omega (arith, h, ap length p)) in
         record {
           inside = subst (λ (x : Span). x .start ≤ e) (sym f) (w .inside);

@@ -11,13 +11,14 @@ use lib.Dec.{eqb, ltb, leb}
 use borrow.Author.Tests.{eq-eqb, ne-eqb, lt-ltb, le-ltb, le-leb, lt-leb, ltb-true, ltb-false, leb-true}
 use Rattle.text.specs.declared.Judged.{Judged}
 use Rattle.text.specs.Bytes.{bytes, equal}
-use Rattle.text.specs.Cells.{firstPiece, lineAt, cellAt, next}
+use Rattle.text.specs.Cells.{firstPiece, lineAt, cellAt, cellEnd}
 use Rattle.text.specs.Spaces.{trim}
 use Rattle.text.specs.Names.{isName}
-use Rattle.text.specs.Decimals.{Verdict, blank, wrong, outOfRange, good}
-use Rattle.text.specs.Judge.{kindOf, judge, wholeOf, unlessBlank, judgedOf, judgedAt, wholeAt}
+use Rattle.text.specs.Verdicts.{Verdict, blank, wrong, outOfRange, good}
+use Rattle.text.specs.Kinds.{kindOf}
+use Rattle.text.specs.Judge.{judge, wholeOf, unlessBlank, judgedOf, judgedAt, wholeAt}
 use Rattle.text.specs.Catalogue.{names, kinds, kindIn}
-use Rattle.text.specs.Scans.{Stop}
+use Rattle.text.specs.Inner.Scans.{Stop}
 use Rattle.text.proofs.CellLaws.{both-true, line-in, line-end, cell-in, cell-end, cell-line}
 use Rattle.text.proofs.SpaceLaws.{slice-take, span-bytes, trim-fits}
 use Rattle.text.proofs.JudgeLaws.{judged-stop, whole-stop}
@@ -87,11 +88,11 @@ module _ {s : List ℕ} {i q e : ℕ} (t : Parted s i q e) where
   pub value-stop : Stop 10 s (q + 1) e
   value-stop = record { inside = omega (arith, t .before); room = t .room; feed = rw (t .end) (line-feed s i (omega (arith, t .end, t .room))); parts = refl }
 
-  value-whole : wholeAt 2 10 s (q + 1) e ≡ judgedOf (next 10 s (q + 1)) (unlessBlank (wholeOf 2) (trim (valueOf (lineAt s i))))
-  value-whole = whole-stop value-stop 2 (omega arith) ∙ ap (λ (x : List ℕ). judgedOf (next 10 s (q + 1)) (unlessBlank (wholeOf 2) (trim x))) value-cell
+  value-whole : wholeAt 2 10 s (q + 1) e ≡ judgedOf (cellEnd 10 s (q + 1)) (unlessBlank (wholeOf 2) (trim (valueOf (lineAt s i))))
+  value-whole = whole-stop value-stop 2 (omega arith) ∙ ap (λ (x : List ℕ). judgedOf (cellEnd 10 s (q + 1)) (unlessBlank (wholeOf 2) (trim x))) value-cell
 
-  value-judged : (k : ℕ) → judgedAt k 10 s (q + 1) e ≡ judgedOf (next 10 s (q + 1)) (judge (kindOf k) (valueOf (lineAt s i)))
-  value-judged k = judged-stop value-stop k ∙ ap (λ (x : List ℕ). judgedOf (next 10 s (q + 1)) (judge (kindOf k) x)) value-cell
+  value-judged : (k : ℕ) → judgedAt k 10 s (q + 1) e ≡ judgedOf (cellEnd 10 s (q + 1)) (judge (kindOf k) (valueOf (lineAt s i)))
+  value-judged k = judged-stop value-stop k ∙ ap (λ (x : List ℕ). judgedOf (cellEnd 10 s (q + 1)) (judge (kindOf k) x)) value-cell
 
 -- ---- faults by their number
 pub breaks-clean : (n c : ℕ) → breaks n c ≡ clean → ⊥
@@ -241,7 +242,7 @@ module _ {s : List ℕ} {i q e : ℕ} (t : Parted s i q e) (n : List ℕ) (en : 
     told : Verdict
     told = unlessBlank (wholeOf 2) (trim (valueOf (lineAt s i)))
 
-    told-by : v ≡ judgedOf (next 10 s (q + 1)) told
+    told-by : v ≡ judgedOf (cellEnd 10 s (q + 1)) told
     unfolding told
     told-by = ev ∙ value-whole t
 
@@ -250,11 +251,11 @@ module _ {s : List ℕ} {i q e : ℕ} (t : Parted s i q e) (n : List ℕ) (en : 
     said-by m k = rw (sym named-by ∙ h) k
 
     pub said-bad : (v .number ≡ 0 → ⊥) → 0 ≡ headersSaid (lineAt s i)
-    said-bad z = said-by 0 (count-bad (next 10 s (q + 1)) told v told-by z)
+    said-bad z = said-by 0 (count-bad (cellEnd 10 s (q + 1)) told v told-by z)
 
     module _ (z : v .number ≡ 0) where
       said-size : cond (leb (v .size) 64) (v .size) 0 ≡ headersSaid (lineAt s i)
-      said-size = said-by _ (count-good (next 10 s (q + 1)) told v told-by z)
+      said-size = said-by _ (count-good (cellEnd 10 s (q + 1)) told v told-by z)
 
       pub said-many : 64 < v .size → 0 ≡ headersSaid (lineAt s i)
       said-many l = ap (λ (c : Bool). cond c (v .size) 0) (sym (lt-leb (v .size) 64 l)) ∙ said-size
@@ -353,7 +354,7 @@ module _ (s : List ℕ) (i : ℕ) (earlier : List (List ℕ)) where
         value-left =
             let x = lineAt s i in
             let e : headerFault earlier s i ≡ kindFault (judge (kindOf k) (valueOf x)) (length (rawName x) + 2) = rules-left ∙ rw (member-is, le-ltb p n l, ek) in
-            kind-fault (next 10 s (h .equals + 1)) (judge (kindOf k) (valueOf x)) v (length (rawName x) + 2) (ev ∙ value-judged (r .parted z) k) ∙ sym e
+            kind-fault (cellEnd 10 s (h .equals + 1)) (judge (kindOf k) (valueOf x)) v (length (rawName x) + 2) (ev ∙ value-judged (r .parted z) k) ∙ sym e
 
         pub header-value : (g : Header) → (g .number ≡ v .number) × (g .column ≡ (h .equals - i) + 2) → (v .number ≡ 0 → ⊥) → HeaderRead (headerFault earlier s i) s i g
         header-value g e y =

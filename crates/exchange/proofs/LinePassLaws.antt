@@ -11,7 +11,7 @@ use Rattle.text.specs.declared.Found.the-variants.{At, Nowhere}
 use Rattle.text.specs.Bytes.{every}
 use Rattle.text.specs.Cells.{lineAt}
 use Rattle.text.specs.Lines.{character, illFrom, illFormed, firstFrom, returnAt, controlAt}
-use Rattle.text.specs.Scans.{Scan}
+use Rattle.text.specs.Inner.Scans.{Scan}
 use Rattle.text.proofs.CellLaws.{line-in, line-end}
 use Rattle.text.proofs.ScanLaws.{scan-undo}
 use Rattle.text.proofs.LineLaws.{plain-well-formed, plain-no-return, plain-no-control}

@@ -9,8 +9,8 @@ use lib.Seq.{slice}
 use lib.Dec.{eqb, ltb}
 use borrow.Author.Tests.{lt-ltb, le-ltb}
 use Rattle.text.specs.declared.Span.{Span}
-use Rattle.text.specs.Cells.{pieces, lineAt, cellAt, next}
-use Rattle.text.specs.Spaces.{lead, back, trim}
+use Rattle.text.specs.Cells.{pieces, lineAt, cellAt, cellEnd}
+use Rattle.text.specs.Spaces.{trimFront, trimEnd, trim}
 use Rattle.text.specs.Names.{beginsCtd}
 use Rattle.text.proofs.SpaceLaws.{span-bytes}
 use Rattle.exchange.specs.declared.asking.Cell.{Cell}
@@ -46,15 +46,15 @@ module _ (s : List ℕ) (i k : ℕ) (f : i + length (lineAt s i) < length s) (h 
   pub name-room : p .start + p .len ≤ length s
   name-room = rw e (omega (arith, at-line .room))
 
-  far : p .start + p .len ≡ next 44 s (p .start)
-  unfolding next
+  far : p .start + p .len ≡ cellEnd 44 s (p .start)
+  unfolding cellEnd
   far = rw e (ap (λ (n : ℕ). cellSpan s i k .start + n) (span-len i (pieces 44 (lineAt s i)) k many ∙ ap length (sym (at-line .text))))
 
   cell-is : slice (p .start) (p .start + p .len) s ≡ getD (pieces 44 (lineAt s i)) k []
   cell-is = rw far (cell-slice 44 s (p .start)) ∙ ap (λ (q : Span). cellAt 44 s (q .start)) e ∙ at-line .text
 
   name-text : textIn s (p .start) (p .start + p .len) ≡ getD (namesOf (lineAt s i)) k []
-  unfolding trim lead back
+  unfolding trim trimFront trimEnd
   name-text = span-bytes s (p .start) (p .start + p .len) (omega arith) name-room ∙ ap trim cell-is ∙ sym (List·getD-map trim (pieces 44 (lineAt s i)) k [])
 
   pub name-ctd : (t : List ℕ) (b : Bool) → t ≡ textIn s (p .start) (p .start + p .len) → b ≡ beginsCtd t → b ≡ beginsCtd (getD (namesOf (lineAt s i)) k [])

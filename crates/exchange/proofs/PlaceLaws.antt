@@ -11,9 +11,9 @@ use lib.Seq.{drop-cons, drop-drop, getD-drop}
 use lib.Dec.{eqb, ltb}
 use borrow.Author.Tests.{eqb-true, eq-eqb, ne-eqb, lt-ltb, le-ltb, ltb-true, ltb-false}
 use Rattle.text.specs.declared.Span.{Span}
-use Rattle.text.specs.Cells.{firstPiece, laterPieces, pieces, lineAt, cellAt, next}
-use Rattle.text.specs.Scans.{Stop}
-use Rattle.text.proofs.CellLaws.{next-parts, pieces-last, pieces-more}
+use Rattle.text.specs.Cells.{firstPiece, laterPieces, pieces, lineAt, cellAt, cellEnd}
+use Rattle.text.specs.Inner.Scans.{Stop}
+use Rattle.text.proofs.CellLaws.{cellEnd-parts, pieces-last, pieces-more}
 use Rattle.exchange.specs.Grid.{starts, lineStart, spanIn, cellSpan, feedsIn, skip, skipped}
 
 -- ---- skipping line feeds
@@ -164,18 +164,18 @@ unfolding spanIn
 span-past i k = rw (le-ltb k 0 (omega arith))
 
 module _ {s : List ℕ} {i e : ℕ} (t : Stop 44 s i e) where
-  pub span-first : (q : ℕ) → q ≡ next 44 s i → cellSpan s i 0 ≡ record { start = i; len = q - i }
-  unfolding next
+  pub span-first : (q : ℕ) → q ≡ cellEnd 44 s i → cellSpan s i 0 ≡ record { start = i; len = q - i }
+  unfolding cellEnd
   span-first q h = span-here i (cellAt 44 s i) (laterPieces 44 (lineAt s i)) ∙ (λ d. record { start = i; len = len-is d })
     where
       len-is : length (cellAt 44 s i) ≡ q - i
       len-is = omega (arith, h)
 
-  pub span-none : (k : ℕ) → getD s (next 44 s i) 0 ≡ 10 → cellSpan s i (k + 1) ≡ record { start = 0; len = 0 }
+  pub span-none : (k : ℕ) → getD s (cellEnd 44 s i) 0 ≡ 10 → cellSpan s i (k + 1) ≡ record { start = 0; len = 0 }
   span-none k h = ap (λ (n : ℕ). cellSpan s i n) (add-one k) ∙ ap (λ (ts : List (List ℕ)). spanIn i ts (suc k)) (pieces-last t h) ∙ span-on i (cellAt 44 s i) [] k ∙ span-past (i + length (cellAt 44 s i) + 1) k
 
-  pub span-more : (k : ℕ) → (getD s (next 44 s i) 0 ≡ 10 → ⊥) → cellSpan s i (k + 1) ≡ cellSpan s (next 44 s i + 1) k
-  unfolding next
+  pub span-more : (k : ℕ) → (getD s (cellEnd 44 s i) 0 ≡ 10 → ⊥) → cellSpan s i (k + 1) ≡ cellSpan s (cellEnd 44 s i + 1) k
+  unfolding cellEnd
   span-more k h =
-      ap (λ (n : ℕ). cellSpan s i n) (add-one k) ∙ ap (λ (ts : List (List ℕ)). spanIn i ts (suc k)) (pieces-more t (λ z. absurd (omega arith)) (next-parts t h))
-      ∙ span-on i (cellAt 44 s i) (pieces 44 (lineAt s (next 44 s i + 1))) k
+      ap (λ (n : ℕ). cellSpan s i n) (add-one k) ∙ ap (λ (ts : List (List ℕ)). spanIn i ts (suc k)) (pieces-more t (λ z. absurd (omega arith)) (cellEnd-parts t h))
+      ∙ span-on i (cellAt 44 s i) (pieces 44 (lineAt s (cellEnd 44 s i + 1))) k

@@ -11,7 +11,7 @@ use borrow.Author.Tests.{eq-eqb, ne-eqb, eqb-false, lt-ltb, ltb-false}
 use Rattle.text.specs.declared.Keys.{Keys}
 use Rattle.text.specs.Cells.{lineAt, pieces}
 use Rattle.text.specs.Rows.{noKeys}
-use Rattle.text.specs.Scans.{Stop}
+use Rattle.text.specs.Inner.Scans.{Stop}
 use Rattle.exchange.specs.declared.profiles.Run.{Run}
 use Rattle.exchange.specs.declared.rows.Row.{Row}
 use Rattle.exchange.specs.Faults.{clean}

@@ -12,13 +12,14 @@ use borrow.Author.Tests.{eq-eqb, ne-eqb, eqb-true, eqb-false}
 use Rattle.text.specs.declared.Span.{Span}
 use Rattle.text.specs.declared.Keys.{Keys}
 use Rattle.text.specs.declared.CellsRead.{CellsRead}
-use Rattle.text.specs.Cells.{cellAt, next}
+use Rattle.text.specs.Cells.{cellAt, cellEnd}
 use Rattle.text.specs.Spaces.{trim}
-use Rattle.text.specs.Decimals.{Verdict, blank, wrong, outOfRange, good}
-use Rattle.text.specs.Judge.{kindOf, judge, judgedOf, numberOf}
-use Rattle.text.specs.Rows.{isGood, sizeOf, isMissingNumber, missingIn, noted, noKeys, endedAt, isLast, cellsFrom, cellsAt}
-use Rattle.text.specs.Scans.{Stop}
-use Rattle.text.proofs.CellLaws.{stop-moved, stop-holds, stop-short, to-end, next-within, next-from, next-in, next-end, next-parts, cell-in, cell-end, pieces-last, pieces-more}
+use Rattle.text.specs.Verdicts.{Verdict, blank, wrong, outOfRange, good, numberOf, isGood, sizeOf}
+use Rattle.text.specs.Kinds.{kindOf}
+use Rattle.text.specs.Judge.{judge, judgedOf}
+use Rattle.text.specs.Rows.{isMissingNumber, missingIn, noted, noKeys, endedAt, isLast, cellsFrom, cellsAt}
+use Rattle.text.specs.Inner.Scans.{Stop}
+use Rattle.text.proofs.CellLaws.{stop-moved, stop-holds, stop-short, to-end, cellEnd-within, cellEnd-from, cellEnd-in, cellEnd-end, cellEnd-parts, cell-in, cell-end, pieces-last, pieces-more}
 use Rattle.text.proofs.JudgeLaws.{judged-at, judged-number}
 use Rattle.text.proofs.SpaceLaws.{span-bytes}
 use Rattle.exchange.specs.Faults.{Fault, clean, breaks, _then_, kindFault, firstOf}
@@ -62,87 +63,87 @@ abbrev missingTo : List ℕ → ℕ → ℕ → ℕ → ℕ
 missingTo s k at m = m + missingIn k (verdictAt s k at)
 
 abbrev keysTo : List ℕ → ℕ → ℕ → Keys → Keys
-keysTo s k at w = noted k at (next 44 s at) (sizeOf (verdictAt s k at)) w
+keysTo s k at w = noted k at (cellEnd 44 s at) (sizeOf (verdictAt s k at)) w
 
 abbrev badAt : List ℕ → ℕ → ℕ → ℕ → ℕ → Keys → CellsRead
-badAt s k at g m w = endedAt at g m w (judgedOf (next 44 s at) (verdictAt s k at))
+badAt s k at g m w = endedAt at g m w (judgedOf (cellEnd 44 s at) (verdictAt s k at))
 
 abbrev lastAt : List ℕ → ℕ → ℕ → ℕ → ℕ → Keys → CellsRead
-lastAt s k at g m w = endedAt at (g + 1) (missingTo s k at m) (keysTo s k at w) (judgedOf (next 44 s at) (verdictAt s k at))
+lastAt s k at g m w = endedAt at (g + 1) (missingTo s k at m) (keysTo s k at w) (judgedOf (cellEnd 44 s at) (verdictAt s k at))
 
 -- a cell is refused; or the last cell is the last kind's, comes too early, or is followed by another; or the next is judged
 data Judging (s : List ℕ) (e : ℕ) : List ℕ → ℕ → ℕ → ℕ → Keys → CellsRead → Type 0 where
   bad : {k : ℕ} {ks : List ℕ} {at g m : ℕ} {w : Keys} → Stop 44 s at e → isGood (verdictAt s k at) ≡ false
       → Judging s e (k ∷ ks) at g m w (badAt s k at g m w)
-  full : {k at g m : ℕ} {w : Keys} → Stop 44 s at e → isGood (verdictAt s k at) ≡ true → getD s (next 44 s at) 0 ≡ 10
+  full : {k at g m : ℕ} {w : Keys} → Stop 44 s at e → isGood (verdictAt s k at) ≡ true → getD s (cellEnd 44 s at) 0 ≡ 10
       → Judging s e (k ∷ []) at g m w (lastAt s k at g m w)
-  short : {k l : ℕ} {ks : List ℕ} {at g m : ℕ} {w : Keys} → Stop 44 s at e → isGood (verdictAt s k at) ≡ true → getD s (next 44 s at) 0 ≡ 10
+  short : {k l : ℕ} {ks : List ℕ} {at g m : ℕ} {w : Keys} → Stop 44 s at e → isGood (verdictAt s k at) ≡ true → getD s (cellEnd 44 s at) 0 ≡ 10
       → Judging s e (k ∷ (l ∷ ks)) at g m w (lastAt s k at g m w)
-  long : {k at g m : ℕ} {w : Keys} → Stop 44 s at e → isGood (verdictAt s k at) ≡ true → getD s (next 44 s at) 0 ≡ 44
+  long : {k at g m : ℕ} {w : Keys} → Stop 44 s at e → isGood (verdictAt s k at) ≡ true → getD s (cellEnd 44 s at) 0 ≡ 44
       → Judging s e (k ∷ []) at g m w (lastAt s k at g m w)
-  more : {k l : ℕ} {ks : List ℕ} {at g m : ℕ} {w : Keys} {r : CellsRead} → Stop 44 s at e → isGood (verdictAt s k at) ≡ true → getD s (next 44 s at) 0 ≡ 44
-      → Judging s e (l ∷ ks) (next 44 s at + 1) (g + 1) (missingTo s k at m) (keysTo s k at w) r
+  more : {k l : ℕ} {ks : List ℕ} {at g m : ℕ} {w : Keys} {r : CellsRead} → Stop 44 s at e → isGood (verdictAt s k at) ≡ true → getD s (cellEnd 44 s at) 0 ≡ 44
+      → Judging s e (l ∷ ks) (cellEnd 44 s at + 1) (g + 1) (missingTo s k at m) (keysTo s k at w) r
       → Judging s e (k ∷ (l ∷ ks)) at g m w r
 
 -- ---- the cells from `at` on
 module _ {s : List ℕ} {at e : ℕ} (t : Stop 44 s at e) where
-  cells-last : getD s (next 44 s at) 0 ≡ 10 → cellsOf s at ≡ cellAt 44 s at ∷ []
+  cells-last : getD s (cellEnd 44 s at) 0 ≡ 10 → cellsOf s at ≡ cellAt 44 s at ∷ []
   cells-last f = pieces-last t f
 
-  cells-more : getD s (next 44 s at) 0 ≡ 44 → cellsOf s at ≡ cellAt 44 s at ∷ cellsOf s (next 44 s at + 1)
+  cells-more : getD s (cellEnd 44 s at) 0 ≡ 44 → cellsOf s at ≡ cellAt 44 s at ∷ cellsOf s (cellEnd 44 s at + 1)
   cells-more f = pieces-more t (λ z. omega arith) f
 
-  stop-next : getD s (next 44 s at) 0 ≡ 44 → Stop 44 s (next 44 s at + 1) e
+  stop-next : getD s (cellEnd 44 s at) 0 ≡ 44 → Stop 44 s (cellEnd 44 s at + 1) e
   stop-next f =
-      stop-moved t (omega (arith, stop-short (stop-moved t (next-within t)) (λ z. omega (arith, f, z))))
+      stop-moved t (omega (arith, stop-short (stop-moved t (cellEnd-within t)) (λ z. omega (arith, f, z))))
 
 -- ---- what judging the cells gives is such a judging
 module _ (s : List ℕ) (e i : ℕ) where
   judging-bad : (k : ℕ) (ks : List ℕ) (at g m : ℕ) (w : Keys) → Stop 44 s at e → isGood (verdictAt s k at) ≡ false
       → Judging s e (k ∷ ks) at g m w (cellsFrom i at g m w (k ∷ ks) (cellsOf s at))
-  unfolding cellsFrom next
+  unfolding cellsFrom cellEnd
   judging-bad k ks at g m w t h = rw h (bad t h)
 
   judging-end : (k : ℕ) (ks : List ℕ) (at g m : ℕ) (w : Keys) (ts : List (List ℕ)) → cellsOf s at ≡ cellAt 44 s at ∷ ts → isLast ks ts ≡ true
       → isGood (verdictAt s k at) ≡ true → Judging s e (k ∷ ks) at g m w (lastAt s k at g m w) → Judging s e (k ∷ ks) at g m w (cellsFrom i at g m w (k ∷ ks) (cellsOf s at))
-  unfolding cellsFrom next
+  unfolding cellsFrom cellEnd
   judging-end k ks at g m w ts q l h j =
       subst (λ (us : List (List ℕ)). Judging s e (k ∷ ks) at g m w (cellsFrom i at g m w (k ∷ ks) us)) (sym q) (rw (h, l) j)
 
-  judging-last : (k at g m : ℕ) (w : Keys) (b f : Bool) → Stop 44 s at e → isGood (verdictAt s k at) ≡ b → eqb (getD s (next 44 s at) 0) 10 ≡ f
+  judging-last : (k at g m : ℕ) (w : Keys) (b f : Bool) → Stop 44 s at e → isGood (verdictAt s k at) ≡ b → eqb (getD s (cellEnd 44 s at) 0) 10 ≡ f
       → Judging s e (k ∷ []) at g m w (cellsFrom i at g m w (k ∷ []) (cellsOf s at))
   judging-last k at g m w false f t h q = judging-bad k [] at g m w t h
   judging-last k at g m w true true t h q =
-      let z = eqb-true (getD s (next 44 s at) 0) 10 q in
+      let z = eqb-true (getD s (cellEnd 44 s at) 0) 10 q in
       judging-end k [] at g m w [] (cells-last t z) refl h (full t h z)
   judging-last k at g m w true false t h q =
-      let z = next-parts t (eqb-false (getD s (next 44 s at) 0) 10 q) in
-      judging-end k [] at g m w (cellsOf s (next 44 s at + 1)) (cells-more t z) refl h (long t h z)
+      let z = cellEnd-parts t (eqb-false (getD s (cellEnd 44 s at) 0) 10 q) in
+      judging-end k [] at g m w (cellsOf s (cellEnd 44 s at + 1)) (cells-more t z) refl h (long t h z)
 
-  judging-on : (k l : ℕ) (ks : List ℕ) (at g m : ℕ) (w : Keys) → cellsOf s at ≡ cellAt 44 s at ∷ cellsOf s (next 44 s at + 1)
+  judging-on : (k l : ℕ) (ks : List ℕ) (at g m : ℕ) (w : Keys) → cellsOf s at ≡ cellAt 44 s at ∷ cellsOf s (cellEnd 44 s at + 1)
       → isGood (verdictAt s k at) ≡ true
       → cellsFrom i at g m w (k ∷ (l ∷ ks)) (cellsOf s at)
-      ≡ cellsFrom i (next 44 s at + 1) (g + 1) (missingTo s k at m) (keysTo s k at w) (l ∷ ks) (cellsOf s (next 44 s at + 1))
-  unfolding cellsFrom next
+      ≡ cellsFrom i (cellEnd 44 s at + 1) (g + 1) (missingTo s k at m) (keysTo s k at w) (l ∷ ks) (cellsOf s (cellEnd 44 s at + 1))
+  unfolding cellsFrom cellEnd
   judging-on k l ks at g m w q h = ap (cellsFrom i at g m w (k ∷ (l ∷ ks))) q ∙ rw h
 
-  judging-more : (k l : ℕ) (ks : List ℕ) (at g m : ℕ) (w : Keys) (b f : Bool) → Stop 44 s at e → isGood (verdictAt s k at) ≡ b → eqb (getD s (next 44 s at) 0) 10 ≡ f
+  judging-more : (k l : ℕ) (ks : List ℕ) (at g m : ℕ) (w : Keys) (b f : Bool) → Stop 44 s at e → isGood (verdictAt s k at) ≡ b → eqb (getD s (cellEnd 44 s at) 0) 10 ≡ f
       → ((a n u : ℕ) (v : Keys) → Stop 44 s a e → Judging s e (l ∷ ks) a n u v (cellsFrom i a n u v (l ∷ ks) (cellsOf s a)))
       → Judging s e (k ∷ (l ∷ ks)) at g m w (cellsFrom i at g m w (k ∷ (l ∷ ks)) (cellsOf s at))
   judging-more k l ks at g m w false f t h q rest = judging-bad k (l ∷ ks) at g m w t h
   judging-more k l ks at g m w true true t h q rest =
-      let z = eqb-true (getD s (next 44 s at) 0) 10 q in
+      let z = eqb-true (getD s (cellEnd 44 s at) 0) 10 q in
       judging-end k (l ∷ ks) at g m w [] (cells-last t z) refl h (short t h z)
   judging-more k l ks at g m w true false t h q rest =
-      let z = next-parts t (eqb-false (getD s (next 44 s at) 0) 10 q) in
+      let z = cellEnd-parts t (eqb-false (getD s (cellEnd 44 s at) 0) 10 q) in
       subst (λ (r : CellsRead). Judging s e (k ∷ (l ∷ ks)) at g m w r) (sym (judging-on k l ks at g m w (cells-more t z) h))
-      (more t h z (rest (next 44 s at + 1) (g + 1) (missingTo s k at m) (keysTo s k at w) (stop-next t z)))
+      (more t h z (rest (cellEnd 44 s at + 1) (g + 1) (missingTo s k at m) (keysTo s k at w) (stop-next t z)))
 
 judging-from : (s : List ℕ) (e i : ℕ) (ks : List ℕ) (k at g m : ℕ) (w : Keys) → Stop 44 s at e
     → Judging s e (k ∷ ks) at g m w (cellsFrom i at g m w (k ∷ ks) (cellsOf s at))
-judging-from s e i [] k at g m w t = judging-last s e i k at g m w (isGood (verdictAt s k at)) (eqb (getD s (next 44 s at) 0) 10) t refl refl
+judging-from s e i [] k at g m w t = judging-last s e i k at g m w (isGood (verdictAt s k at)) (eqb (getD s (cellEnd 44 s at) 0) 10) t refl refl
 judging-from s e i (l ∷ ks) k at g m w t =
-    judging-more s e i k l ks at g m w (isGood (verdictAt s k at)) (eqb (getD s (next 44 s at) 0) 10) t refl refl
+    judging-more s e i k l ks at g m w (isGood (verdictAt s k at)) (eqb (getD s (cellEnd 44 s at) 0) 10) t refl refl
     (λ a n u v x. judging-from s e i ks l a n u v x)
 
 judging-all : (s ks : List ℕ) (i e : ℕ) (r : CellsRead) → Stop 44 s i e → 0 < length ks → r ≡ cellsAt ks 44 s i e → Judging s e ks i 0 0 noKeys r
@@ -163,13 +164,13 @@ module _ {s : List ℕ} {at e : ℕ} (t : Stop 44 s at e) (k : ℕ) (ks : List �
   unfolding cellFaults cellList firstOf
   faults-bad c h = rw (fault-bad (verdictAt s k at) c h)
 
-  faults-last : (c : ℕ) → isGood (verdictAt s k at) ≡ true → getD s (next 44 s at) 0 ≡ 10 → cellFaults c (k ∷ []) (cellsOf s at) ≡ clean
+  faults-last : (c : ℕ) → isGood (verdictAt s k at) ≡ true → getD s (cellEnd 44 s at) 0 ≡ 10 → cellFaults c (k ∷ []) (cellsOf s at) ≡ clean
   unfolding cellFaults cellList firstOf
   faults-last c h z = rw (fault-good (verdictAt s k at) c h)
 
-  faults-more : (c : ℕ) → isGood (verdictAt s k at) ≡ true → getD s (next 44 s at) 0 ≡ 44
-      → cellFaults c (k ∷ ks) (cellsOf s at) ≡ cellFaults (c + (next 44 s at - at) + 1) ks (cellsOf s (next 44 s at + 1))
-  unfolding cellFaults cellList firstOf next
+  faults-more : (c : ℕ) → isGood (verdictAt s k at) ≡ true → getD s (cellEnd 44 s at) 0 ≡ 44
+      → cellFaults c (k ∷ ks) (cellsOf s at) ≡ cellFaults (c + (cellEnd 44 s at - at) + 1) ks (cellsOf s (cellEnd 44 s at + 1))
+  unfolding cellFaults cellList firstOf cellEnd
   faults-more c h z =
       let n : (at + length (cellAt 44 s at)) - at ≡ length (cellAt 44 s at) = omega arith in
       ap (cellFaults c (k ∷ ks)) (cells-more t z) ∙ rw (n, fault-good (verdictAt s k at) c h)
@@ -182,68 +183,68 @@ judging-refused {s} {e} {js} {at} {g} (bad {k} {ks} t h) z = record {
   count = refl;
   fault = λ c.
       let e : c ≡ c + (at - at) = omega arith in
-      faults-bad t k ks c h ∙ ap (λ (n : ℕ). breaks n c) (sym (judged-number (next 44 s at) (verdictAt s k at))) ∙ ap (breaks (judgedOf (next 44 s at) (verdictAt s k at) .number)) e;
+      faults-bad t k ks c h ∙ ap (λ (n : ℕ). breaks n c) (sym (judged-number (cellEnd 44 s at) (verdictAt s k at))) ∙ ap (breaks (judgedOf (cellEnd 44 s at) (verdictAt s k at) .number)) e;
 }
-judging-refused {s} {e} {js} {at} (full {k} t h f) z = absurd (z (judged-number (next 44 s at) (verdictAt s k at) ∙ number-good (verdictAt s k at) h))
-judging-refused {s} {e} {js} {at} (short {k} t h f) z = absurd (z (judged-number (next 44 s at) (verdictAt s k at) ∙ number-good (verdictAt s k at) h))
-judging-refused {s} {e} {js} {at} (long {k} t h f) z = absurd (z (judged-number (next 44 s at) (verdictAt s k at) ∙ number-good (verdictAt s k at) h))
+judging-refused {s} {e} {js} {at} (full {k} t h f) z = absurd (z (judged-number (cellEnd 44 s at) (verdictAt s k at) ∙ number-good (verdictAt s k at) h))
+judging-refused {s} {e} {js} {at} (short {k} t h f) z = absurd (z (judged-number (cellEnd 44 s at) (verdictAt s k at) ∙ number-good (verdictAt s k at) h))
+judging-refused {s} {e} {js} {at} (long {k} t h f) z = absurd (z (judged-number (cellEnd 44 s at) (verdictAt s k at) ∙ number-good (verdictAt s k at) h))
 judging-refused {s} {e} {js} {at} {g} {m} {w} {r} (more {k} {l} {ks} t h f j) z =
     let x = judging-refused j z in
-    let n = next-from 44 s at in
-    let c : length (cellsOf s at) ≡ suc (length (cellsOf s (next 44 s at + 1))) = ap length (cells-more t f) in
+    let n = cellEnd-from 44 s at in
+    let c : length (cellsOf s at) ≡ suc (length (cellsOf s (cellEnd 44 s at + 1))) = ap length (cells-more t f) in
     record {
       low = omega (arith, x .low);
       stop = x .stop;
       left = omega (arith, x .left);
       count = omega (arith, x .count);
       fault = λ c.
-          let b : (c + (next 44 s at - at) + 1) + (r .start - (next 44 s at + 1)) ≡ c + (r .start - at) = omega (arith, x .low) in
-          faults-more t k (l ∷ ks) c h f ∙ x .fault (c + (next 44 s at - at) + 1) ∙ ap (breaks (r .number)) b;
+          let b : (c + (cellEnd 44 s at - at) + 1) + (r .start - (cellEnd 44 s at + 1)) ≡ c + (r .start - at) = omega (arith, x .low) in
+          faults-more t k (l ∷ ks) c h f ∙ x .fault (c + (cellEnd 44 s at - at) + 1) ∙ ap (breaks (r .number)) b;
     }
 
 -- ---- every cell is good
 judging-within : {s : List ℕ} {e : ℕ} {js : List ℕ} {at g m : ℕ} {w : Keys} {r : CellsRead} → Judging s e js at g m w r → r .at ≤ e
-judging-within {s} {e} {js} {at} (bad {k} t h) = omega (arith, judged-at (next 44 s at) (verdictAt s k at), next-within t)
-judging-within {s} {e} {js} {at} (full {k} t h f) = omega (arith, judged-at (next 44 s at) (verdictAt s k at), next-within t)
-judging-within {s} {e} {js} {at} (short {k} t h f) = omega (arith, judged-at (next 44 s at) (verdictAt s k at), next-within t)
-judging-within {s} {e} {js} {at} (long {k} t h f) = omega (arith, judged-at (next 44 s at) (verdictAt s k at), next-within t)
+judging-within {s} {e} {js} {at} (bad {k} t h) = omega (arith, judged-at (cellEnd 44 s at) (verdictAt s k at), cellEnd-within t)
+judging-within {s} {e} {js} {at} (full {k} t h f) = omega (arith, judged-at (cellEnd 44 s at) (verdictAt s k at), cellEnd-within t)
+judging-within {s} {e} {js} {at} (short {k} t h f) = omega (arith, judged-at (cellEnd 44 s at) (verdictAt s k at), cellEnd-within t)
+judging-within {s} {e} {js} {at} (long {k} t h f) = omega (arith, judged-at (cellEnd 44 s at) (verdictAt s k at), cellEnd-within t)
 judging-within (more t h f j) = judging-within j
 
 -- the cells are not as many as the kinds
 judging-odd : {s : List ℕ} {e : ℕ} {js : List ℕ} {at g m : ℕ} {w : Keys} {r : CellsRead} → Judging s e js at g m w r → r .number ≡ 0
     → (r .good ≡ g + length js → getD s (r .at) 0 ≡ 10 → ⊥) → length (cellsOf s at) ≡ length js → ⊥
-judging-odd {s} {e} {js} {at} (bad {k} t h) z n q = number-bad (verdictAt s k at) h (sym (judged-number (next 44 s at) (verdictAt s k at)) ∙ z)
-judging-odd {s} {e} {js} {at} (full {k} t h f) z n q = n refl (ap (λ (p : ℕ). getD s p 0) (judged-at (next 44 s at) (verdictAt s k at)) ∙ f)
+judging-odd {s} {e} {js} {at} (bad {k} t h) z n q = number-bad (verdictAt s k at) h (sym (judged-number (cellEnd 44 s at) (verdictAt s k at)) ∙ z)
+judging-odd {s} {e} {js} {at} (full {k} t h f) z n q = n refl (ap (λ (p : ℕ). getD s p 0) (judged-at (cellEnd 44 s at) (verdictAt s k at)) ∙ f)
 judging-odd {s} {e} {js} {at} (short {k} t h f) z n q =
     let c : length (cellsOf s at) ≡ 1 = ap length (cells-last t f) in
     omega arith
 judging-odd {s} {e} {js} {at} (long {k} t h f) z n q =
-    let c : length (cellsOf s at) ≡ suc (length (cellsOf s (next 44 s at + 1))) = ap length (cells-more t f) in
+    let c : length (cellsOf s at) ≡ suc (length (cellsOf s (cellEnd 44 s at + 1))) = ap length (cells-more t f) in
     omega arith
 judging-odd {s} {e} {js} {at} {g} (more {k} {l} {ks} t h f j) z n q =
-    let c : length (cellsOf s at) ≡ suc (length (cellsOf s (next 44 s at + 1))) = ap length (cells-more t f) in
+    let c : length (cellsOf s at) ≡ suc (length (cellsOf s (cellEnd 44 s at + 1))) = ap length (cells-more t f) in
     judging-odd j z (λ a b. n (omega arith) b) (omega arith)
 
 -- ---- a cell's place noted
-cell-slice : {s : List ℕ} {at e : ℕ} → Stop 44 s at e → (slice at (next 44 s at) s ≡ cellAt 44 s at) × (next 44 s at ≤ length s)
+cell-slice : {s : List ℕ} {at e : ℕ} → Stop 44 s at e → (slice at (cellEnd 44 s at) s ≡ cellAt 44 s at) × (cellEnd 44 s at ≤ length s)
 cell-slice {s} {at} {e} t =
-    to-end t (λ (p : ℕ). (slice p (next 44 s p) s ≡ cellAt 44 s p) × (next 44 s p ≤ length s))
-    (λ p h l d. (ap (λ (n : ℕ). slice p n s) (next-end s p l 44 d) ∙ slice-empty p s ∙ sym (cell-end s p l 44 d), omega (arith, next-end s p l 44 d)))
+    to-end t (λ (p : ℕ). (slice p (cellEnd 44 s p) s ≡ cellAt 44 s p) × (cellEnd 44 s p ≤ length s))
+    (λ p h l d. (ap (λ (n : ℕ). slice p n s) (cellEnd-end s p l 44 d) ∙ slice-empty p s ∙ sym (cell-end s p l 44 d), omega (arith, cellEnd-end s p l 44 d)))
     (λ p l d x. (
-      ap (λ (n : ℕ). slice p n s) (next-in s p l 44 d)
-          ∙ slice-cons p (next 44 s (p + 1)) s 0 (omega (arith, next-from 44 s (p + 1))) (x .1)
-          ∙ ap (λ (q : ℕ). getD s p 0 ∷ slice q (next 44 s (p + 1)) s) (sym (add-one p))
+      ap (λ (n : ℕ). slice p n s) (cellEnd-in s p l 44 d)
+          ∙ slice-cons p (cellEnd 44 s (p + 1)) s 0 (omega (arith, cellEnd-from 44 s (p + 1))) (x .1)
+          ∙ ap (λ (q : ℕ). getD s p 0 ∷ slice q (cellEnd 44 s (p + 1)) s) (sym (add-one p))
           ∙ ap (λ (u : List ℕ). getD s p 0 ∷ u) (x .0)
           ∙ sym (cell-in s p l 44 d),
-      omega (arith, next-in s p l 44 d, x .1),
+      omega (arith, cellEnd-in s p l 44 d, x .1),
     ))
 
-cell-span : {s : List ℕ} {at e : ℕ} → Stop 44 s at e → spanText s (record { start = at; len = next 44 s at - at }) ≡ trim (cellAt 44 s at)
+cell-span : {s : List ℕ} {at e : ℕ} → Stop 44 s at e → spanText s (record { start = at; len = cellEnd 44 s at - at }) ≡ trim (cellAt 44 s at)
 unfolding spanText
 cell-span {s} {at} {e} t =
-    let n : at + (next 44 s at - at) ≡ next 44 s at = omega (arith, next-from 44 s at) in
+    let n : at + (cellEnd 44 s at - at) ≡ cellEnd 44 s at = omega (arith, cellEnd-from 44 s at) in
     let x = cell-slice t in
-    rw n (span-bytes s at (next 44 s at) (next-from 44 s at) (x .1) ∙ ap trim (x .0))
+    rw n (span-bytes s at (cellEnd 44 s at) (cellEnd-from 44 s at) (x .1) ∙ ap trim (x .0))
 
 -- the keys w stand for these cells
 record KeyHeld (s : List ℕ) (w : Keys) (x y z : List ℕ) : Type 0 where
@@ -261,10 +262,10 @@ noted-held {s} {at} {e} t k {w} {x} {y} {z} h = go (eqb k 6) (eqb k 7) (eqb k 8)
     u = cellAt 44 s at
 
     span : Span
-    span = record { start = at; len = next 44 s at - at }
+    span = record { start = at; len = cellEnd 44 s at - at }
 
-    fits : at + (next 44 s at - at) ≤ length s
-    fits = omega (arith, next-from 44 s at, cell-slice t .1)
+    fits : at + (cellEnd 44 s at - at) ≤ length s
+    fits = omega (arith, cellEnd-from 44 s at, cell-slice t .1)
 
     go : (a b c : Bool) → eqb k 6 ≡ a → eqb k 7 ≡ b → eqb k 8 ≡ c
         → KeyHeld s
@@ -299,7 +300,7 @@ pub none-within : (s : List ℕ) → KeysWithin s noKeys
 none-within s = record { expocode = omega arith; stnnbr = omega arith }
 
 none-held : (s : List ℕ) → KeyHeld s noKeys [] [] []
-unfolding spanText judge kindOf trim Rattle.text.specs.Spaces.lead Rattle.text.specs.Spaces.back
+unfolding spanText judge kindOf trim Rattle.text.specs.Spaces.trimFront Rattle.text.specs.Spaces.trimEnd
 none-held s = record { expocode = none; stnnbr = none; castno = refl; within = none-within s }
   where
     none : spanText s (record { start = 0; len = 0 }) ≡ trim []
@@ -317,7 +318,7 @@ judging-full : {s : List ℕ} {e : ℕ} {js : List ℕ} {at g m : ℕ} {w : Keys
     → r .good ≡ g + length js → getD s (r .at) 0 ≡ 10 → CellsFull s js at m w r
 unfolding missingInRow cellOfKind
 judging-full {s} {e} {js} {at} (bad {k} t h) z n q =
-    absurd (number-bad (verdictAt s k at) h (sym (judged-number (next 44 s at) (verdictAt s k at)) ∙ z))
+    absurd (number-bad (verdictAt s k at) h (sym (judged-number (cellEnd 44 s at) (verdictAt s k at)) ∙ z))
 judging-full {s} {e} {js} {at} (full {k} t h f) z n q = record {
   count = ap length (cells-last t f);
   fault = λ c. faults-last t k [] c h f;
@@ -326,15 +327,15 @@ judging-full {s} {e} {js} {at} (full {k} t h f) z n q = record {
 }
 judging-full {s} {e} {js} {at} (short {k} t h f) z n q = absurd (omega arith)
 judging-full {s} {e} {js} {at} (long {k} t h f) z n q =
-    let p : getD s (next 44 s at) 0 ≡ 10 = ap (λ (p : ℕ). getD s p 0) (sym (judged-at (next 44 s at) (verdictAt s k at))) ∙ q in
+    let p : getD s (cellEnd 44 s at) 0 ≡ 10 = ap (λ (p : ℕ). getD s p 0) (sym (judged-at (cellEnd 44 s at) (verdictAt s k at))) ∙ q in
     absurd (omega (arith, p, f))
 judging-full {s} {e} {js} {at} {g} {m} {w} {r} (more {k} {l} {ks} t h f j) z n q =
     let y = judging-full j z (omega arith) q in
-    let c : length (cellsOf s at) ≡ suc (length (cellsOf s (next 44 s at + 1))) = ap length (cells-more t f) in
-    let d : missingInRow (k ∷ (l ∷ ks)) (cellsOf s at) ≡ missingIn k (verdictAt s k at) + missingInRow (l ∷ ks) (cellsOf s (next 44 s at + 1)) = ap (missingInRow (k ∷ (l ∷ ks))) (cells-more t f) in
+    let c : length (cellsOf s at) ≡ suc (length (cellsOf s (cellEnd 44 s at + 1))) = ap length (cells-more t f) in
+    let d : missingInRow (k ∷ (l ∷ ks)) (cellsOf s at) ≡ missingIn k (verdictAt s k at) + missingInRow (l ∷ ks) (cellsOf s (cellEnd 44 s at + 1)) = ap (missingInRow (k ∷ (l ∷ ks))) (cells-more t f) in
     record {
       count = omega (arith, y .count);
-      fault = λ c. faults-more t k (l ∷ ks) c h f ∙ y .fault (c + (next 44 s at - at) + 1);
+      fault = λ c. faults-more t k (l ∷ ks) c h f ∙ y .fault (c + (cellEnd 44 s at - at) + 1);
       missing = omega (arith, y .missing, d);
       key = λ a b c i.
           subst (λ (us : List (List ℕ)). KeyHeld s (r .keys) (cellOfKind 6 a (k ∷ (l ∷ ks)) us) (cellOfKind 7 b (k ∷ (l ∷ ks)) us) (cellOfKind 8 c (k ∷ (l ∷ ks)) us)) (sym (cells-more t f))

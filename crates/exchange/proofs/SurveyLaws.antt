@@ -9,7 +9,7 @@ use lib.Dec.{eqb, ltb}
 use borrow.Author.Tests.{eqb-true, eq-eqb, ne-eqb, ltb-true, ltb-false}
 use Rattle.text.specs.Bytes.{equal}
 use Rattle.text.specs.Cells.{pieces, lineAt}
-use Rattle.text.specs.Scans.{Stop}
+use Rattle.text.specs.Inner.Scans.{Stop}
 use Rattle.text.proofs.CellLaws.{line-in, line-end, count-step}
 use Rattle.exchange.specs.declared.columns.Columns.{Columns}
 use Rattle.exchange.specs.declared.lines.Line.{Line}

@@ -8,7 +8,7 @@ use lib.ListN.{length, getD, take, length-take}
 use lib.Dec.{eqb}
 use borrow.Author.Tests.{ne-eqb}
 use Rattle.text.specs.Bytes.{equal}
-use Rattle.text.specs.Cells.{firstPiece, laterPieces, lineAt, next}
+use Rattle.text.specs.Cells.{firstPiece, laterPieces, lineAt, cellEnd}
 use Rattle.text.proofs.CellLaws.{line-in}
 use Rattle.text.proofs.EqualLaws.{equal-lengths}
 use Rattle.text.proofs.SpaceLaws.{slice-take}
@@ -24,12 +24,12 @@ use Rattle.exchange.proofs.RuleLaws.{first-step, comment-step}
 use Rattle.exchange.proofs.RunLaws.{piece-take, run-stopped, run-line, line-clean, line-broken, line-broken-here, starts-next}
 
 -- ---- the text before line 1's first comma
-first-word : (s : List ℕ) (q : ℕ) → q ≡ next 44 s 0 → take q s ≡ firstPiece 44 (lineAt s 0)
+first-word : (s : List ℕ) (q : ℕ) → q ≡ cellEnd 44 s 0 → take q s ≡ firstPiece 44 (lineAt s 0)
 first-word s q e =
-    let n : next 44 s 0 - 0 ≡ next 44 s 0 = omega arith in
-    ap (λ (k : ℕ). take k s) (e ∙ sym n) ∙ sym (slice-take 0 (next 44 s 0) s) ∙ cell-slice 44 s 0
+    let n : cellEnd 44 s 0 - 0 ≡ cellEnd 44 s 0 = omega arith in
+    ap (λ (k : ℕ). take k s) (e ∙ sym n) ∙ sym (slice-take 0 (cellEnd 44 s 0) s) ∙ cell-slice 44 s 0
 
-pub word-is : (s : List ℕ) (q : ℕ) → q ≡ next 44 s 0 → (w : List ℕ) (r : Bool) → r ≡ equal (take q s) w → equal (firstPiece 44 (lineAt s 0)) w ≡ r
+pub word-is : (s : List ℕ) (q : ℕ) → q ≡ cellEnd 44 s 0 → (w : List ℕ) (r : Bool) → r ≡ equal (take q s) w → equal (firstPiece 44 (lineAt s 0)) w ≡ r
 word-is s q e w r h = sym (h ∙ ap (λ (x : List ℕ). equal x w) (first-word s q e))
 
 -- ---- the mark of UTF-8

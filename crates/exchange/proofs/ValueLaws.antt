@@ -11,10 +11,11 @@ use borrow.Author.Tests.{eqb-true, eqb-false, lt-ltb, le-ltb}
 use Rattle.text.specs.declared.Span.{Span}
 use Rattle.text.specs.declared.Judged.{Judged}
 use Rattle.text.specs.Bytes.{equal}
-use Rattle.text.specs.Cells.{cellAt, lineAt, pieces, next}
+use Rattle.text.specs.Cells.{cellAt, lineAt, pieces, cellEnd}
 use Rattle.text.specs.Spaces.{trim}
-use Rattle.text.specs.Decimals.{Verdict, blank, wrong, outOfRange, good}
-use Rattle.text.specs.Judge.{kindOf, judge, judgedOf, judgedAt}
+use Rattle.text.specs.Verdicts.{Verdict, blank, wrong, outOfRange, good}
+use Rattle.text.specs.Kinds.{kindOf}
+use Rattle.text.specs.Judge.{judge, judgedOf, judgedAt}
 use Rattle.text.proofs.CellLaws.{stop-moved}
 use Rattle.text.proofs.JudgeLaws.{judged-stop}
 use Rattle.exchange.specs.declared.CastTime.the-variants.{Given, Missing}
@@ -195,15 +196,15 @@ module _ {s : List ℕ} {x : Value} {v : ValueAt} (w : ValueRead s x v) where
     abbrev verdict : Verdict
     verdict = judge (kindOf kind) (cellAt (v .separator) s (v .start))
 
-    judged-is : j ≡ judgedOf (next (v .separator) s (v .start)) verdict
+    judged-is : j ≡ judgedOf (cellEnd (v .separator) s (v .start)) verdict
     judged-is = ej ∙ judged-stop (w .stop (so (v .found) h)) kind
 
     pub number-some : j .size ≡ numberIn kind x
-    number-some = rw (w .some (so (v .found) h)) (ap (λ (y : Judged). y .size) judged-is ∙ size-anywhere (next (v .separator) s (v .start)) verdict)
+    number-some = rw (w .some (so (v .found) h)) (ap (λ (y : Judged). y .size) judged-is ∙ size-anywhere (cellEnd (v .separator) s (v .start)) verdict)
 
   module _ (h : not (v .found) ≡ false) (j : Judged) (ej : j ≡ judgedAt 10 (v .separator) s (v .start) (v .feed)) where
     pub time-missing : (not (eqb (j .number) 0) || j .minus) ≡ true → Missing ≡ castTime x
-    time-missing z = rw (w .some (so (v .found) h)) (time-lacking (next (v .separator) s (v .start)) j (verdict h 10 j ej) (judged-is h 10 j ej) z)
+    time-missing z = rw (w .some (so (v .found) h)) (time-lacking (cellEnd (v .separator) s (v .start)) j (verdict h 10 j ej) (judged-is h 10 j ej) z)
 
     pub time-given : (not (eqb (j .number) 0) || j .minus) ≡ false → Given (j .size / 100) (j .size % 100) ≡ castTime x
-    time-given z = rw (w .some (so (v .found) h)) (time-told (next (v .separator) s (v .start)) j (verdict h 10 j ej) (judged-is h 10 j ej) z)
+    time-given z = rw (w .some (so (v .found) h)) (time-told (cellEnd (v .separator) s (v .start)) j (verdict h 10 j ej) (judged-is h 10 j ej) z)

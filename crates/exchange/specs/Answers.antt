@@ -9,9 +9,10 @@ use Rattle.text.specs.declared.Reading.{Reading}
 use Rattle.text.specs.declared.Reading.the-variants.{Refused}
 use Rattle.text.specs.Cells.{pieces}
 use Rattle.text.specs.Spaces.{trimSpan}
-use Rattle.text.specs.Judge.{kindOf, judge, judgedOf}
+use Rattle.text.specs.Kinds.{kindOf}
+use Rattle.text.specs.Judge.{judge, judgedOf}
 use Rattle.text.specs.Reading.{readingOf}
-use Rattle.text.specs.Rows.{sizeOf}
+use Rattle.text.specs.Verdicts.{sizeOf}
 use Rattle.exchange.specs.declared.FileKind.{FileKind}
 use Rattle.exchange.specs.declared.FileKind.the-variants.{Unknown, Bottle, Ctd}
 use Rattle.exchange.specs.declared.Checked.{Checked}

@@ -4,7 +4,7 @@ use mathlib.Core.Path.{_≡_}
 use mathlib.Core.List.{List}
 use lib.ListN.{length}
 use Rattle.text.specs.Cells.{lineAt, cellAt}
-use Rattle.text.specs.Scans.{Stop}
+use Rattle.text.specs.Inner.Scans.{Stop}
 use Rattle.exchange.specs.declared.asking.Cell.{Cell}
 use Rattle.exchange.specs.Columns.{namesOf}
 use Rattle.exchange.specs.Places.{Table}

@@ -3,7 +3,7 @@ use Prim.Native.Nat.{ℕ, suc}
 use mathlib.Core.List.{List, [], _∷_}
 use mathlib.Core.Bool.{Bool, true, false, cond, _||_, _&&_}
 use Rattle.text.specs.Bytes.{equal}
-use Rattle.text.specs.Decimals.{Verdict, blank, wrong, outOfRange, good}
+use Rattle.text.specs.Verdicts.{Verdict, blank, wrong, outOfRange, good}
 
 pub data Fault : Type 0 where
   clean : Fault

@@ -10,8 +10,9 @@ use Rattle.text.specs.Bytes.{bytes, equal}
 use Rattle.text.specs.Cells.{firstPiece}
 use Rattle.text.specs.Spaces.{trim}
 use Rattle.text.specs.Names.{isName}
-use Rattle.text.specs.Decimals.{Verdict, blank, wrong, outOfRange, good}
-use Rattle.text.specs.Judge.{kindOf, judge, wholeOf, unlessBlank}
+use Rattle.text.specs.Verdicts.{Verdict, blank, wrong, outOfRange, good}
+use Rattle.text.specs.Kinds.{kindOf}
+use Rattle.text.specs.Judge.{judge, wholeOf, unlessBlank}
 use Rattle.text.specs.Catalogue.{names, kinds, kindIn}
 use Rattle.exchange.specs.Faults.{Fault, unless, kindFault, member, hasAll}
 

@@ -6,7 +6,7 @@ use mathlib.Core.Bool.{Bool, not, _||_}
 use lib.ListN.{length, getD}
 use lib.Dec.{ltb}
 use Rattle.text.specs.Cells.{lineAt}
-use Rattle.text.specs.Scans.{Scan}
+use Rattle.text.specs.Inner.Scans.{Scan}
 
 -- bytes 20 to 7E
 abbrev pub isPlain : ℕ → Bool

@@ -6,7 +6,7 @@ use mathlib.Core.Bool.{Bool, cond}
 use lib.ListN.{length, getD}
 use lib.Dec.{eqb}
 use Rattle.text.specs.Cells.{lineAt}
-use Rattle.text.specs.Scans.{Stop}
+use Rattle.text.specs.Inner.Scans.{Stop}
 use Rattle.exchange.specs.declared.profiles.Run.{Run}
 use Rattle.exchange.specs.Faults.{clean}
 use Rattle.exchange.specs.RuleWords.{rowRules}

@@ -8,8 +8,10 @@ use lib.Dec.{eqb}
 use Rattle.text.specs.Bytes.{equal}
 use Rattle.text.specs.Cells.{pieces}
 use Rattle.text.specs.Spaces.{trim}
-use Rattle.text.specs.Judge.{kindOf, judge}
-use Rattle.text.specs.Rows.{sizeOf, missingIn}
+use Rattle.text.specs.Kinds.{kindOf}
+use Rattle.text.specs.Judge.{judge}
+use Rattle.text.specs.Verdicts.{sizeOf}
+use Rattle.text.specs.Rows.{missingIn}
 
 -- the lines of a file as lists of cells
 abbrev pub grid : List ℕ → List (List (List ℕ))

@@ -8,9 +8,9 @@ use lib.Dec.{ltb}
 use Rattle.text.specs.declared.Span.{Span}
 use Rattle.text.specs.Bytes.{bytes, equal}
 use Rattle.text.specs.Cells.{pieces}
-use Rattle.text.specs.Decimals.{Verdict, blank, wrong, outOfRange, good}
-use Rattle.text.specs.Judge.{kindOf, judge}
-use Rattle.text.specs.Rows.{sizeOf}
+use Rattle.text.specs.Verdicts.{Verdict, blank, wrong, outOfRange, good, sizeOf}
+use Rattle.text.specs.Kinds.{kindOf}
+use Rattle.text.specs.Judge.{judge}
 use Rattle.exchange.specs.declared.CastTime.{CastTime}
 use Rattle.exchange.specs.declared.CastTime.the-variants.{Given, Missing}
 use Rattle.exchange.specs.declared.ProfileRecord.{ProfileRecord}

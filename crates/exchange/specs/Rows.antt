@@ -6,7 +6,8 @@ use mathlib.Core.Bool.{Bool}
 use lib.ListN.{length}
 use lib.Dec.{eqb, ltb}
 use Rattle.text.specs.Bytes.{bytes, equal}
-use Rattle.text.specs.Judge.{kindOf, judge}
+use Rattle.text.specs.Kinds.{kindOf}
+use Rattle.text.specs.Judge.{judge}
 use Rattle.exchange.specs.Faults.{Fault, unless, kindFault}
 use Rattle.exchange.specs.Columns.{kindsOf}
 

@@ -6,7 +6,7 @@ use mathlib.Core.Bool.{true, false, cond}
 use lib.ListN.{length, getD}
 use lib.Dec.{ltb}
 use Rattle.text.specs.Cells.{cellAt, lineAt, pieces}
-use Rattle.text.specs.Scans.{Stop}
+use Rattle.text.specs.Inner.Scans.{Stop}
 use Rattle.exchange.specs.declared.CastTime.{CastTime}
 use Rattle.exchange.specs.declared.survey.Survey.{Survey}
 use Rattle.exchange.specs.declared.profiles.Run.{Run}

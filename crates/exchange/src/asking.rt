@@ -7,7 +7,7 @@ ghost use lib.ListN.{length, getD};
 ghost use lib.Dec.{ltb};
 ghost use Rattle.text.specs.Cells.{lineAt};
 ghost use Rattle.text.specs.Names.{beginsCtd};
-ghost use Rattle.text.specs.Scans.{Stop};
+ghost use Rattle.text.specs.Inner.Scans.{Stop};
 ghost use Rattle.exchange.specs.Columns.{namesOf};
 ghost use Rattle.exchange.specs.Grid.{cellSpan};
 ghost use Rattle.exchange.specs.Located.{nowhere};

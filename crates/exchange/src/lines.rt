@@ -3,7 +3,7 @@ ghost use mathlib.Core.Path.{_≡_};
 ghost use mathlib.Core.Bool.{false};
 ghost use Prim.Native.Nat.{_+_, min, _≤_, _<_};
 ghost use lib.ListN.{length};
-ghost use Rattle.text.specs.Scans.{Scan};
+ghost use Rattle.text.specs.Inner.Scans.{Scan};
 ghost use Rattle.exchange.specs.LineWords.{isPlain, Plain};
 ghost use Rattle.exchange.specs.Walks.{lineFor, lineOf};
 use crate::places::line_end;

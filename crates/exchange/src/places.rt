@@ -4,8 +4,8 @@ ghost use mathlib.Core.Bool.{cond};
 ghost use Prim.Native.Nat.{_+_, _≤_};
 ghost use lib.ListN.{length, take, drop};
 ghost use lib.Dec.{eqb};
-ghost use Rattle.text.specs.Cells.{lineAt, pieces, next};
-ghost use Rattle.text.specs.Scans.{Stop};
+ghost use Rattle.text.specs.Cells.{lineAt, pieces, cellEnd};
+ghost use Rattle.text.specs.Inner.Scans.{Stop};
 ghost use Rattle.exchange.specs.Grid.{lineStart, cellSpan, feedsIn, skipped};
 use text::Span;
 
@@ -94,7 +94,7 @@ pub fn line_end(s: &[u8], i: usize) -> usize
 // Where the cell ends that goes on at i, in a line whose line feed stands at e.
 pub fn cell_end(s: &[u8], i: usize, e: usize) -> usize
     requires { ⌜ Stop 44 (now s) i e ⌝ }
-    ensures { λ r. ⌜ (r ≡ next 44 (now (s .entry)) i) × (i ≤ r) × (r ≤ e) ⌝ }
+    ensures { λ r. ⌜ (r ≡ cellEnd 44 (now (s .entry)) i) × (i ≤ r) × (r ≤ e) ⌝ }
 {
     let mut p = i;
     while s[p] != 44 {

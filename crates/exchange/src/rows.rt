@@ -6,7 +6,7 @@ ghost use lib.ListN.{length};
 ghost use lib.Dec.{eqb};
 ghost use Rattle.text.specs.Bytes.{equal};
 ghost use Rattle.text.specs.Rows.{noKeys};
-ghost use Rattle.text.specs.Scans.{Stop};
+ghost use Rattle.text.specs.Inner.Scans.{Stop};
 ghost use Rattle.exchange.specs.Rows.{isEndData};
 ghost use Rattle.exchange.specs.Profiles.{sameKey};
 ghost use Rattle.exchange.specs.Walks.{DataRead};

@@ -4,7 +4,7 @@ ghost use mathlib.Core.Bool.{cond};
 ghost use Prim.Native.Nat.{_+_, _≤_};
 ghost use lib.ListN.{length};
 ghost use Rattle.text.specs.Cells.{lineAt};
-ghost use Rattle.text.specs.Scans.{Stop};
+ghost use Rattle.text.specs.Inner.Scans.{Stop};
 ghost use Rattle.exchange.specs.Places.{isMark, isBottle, isCtd};
 ghost use Rattle.exchange.specs.Walks.{FirstRead, CommentsRead};
 use crate::lines::line_at;

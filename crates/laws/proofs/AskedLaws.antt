@@ -11,12 +11,14 @@ use lib.Seq.{getD-take, getD-drop, length-take-le}
 use lib.Dec.{eqb}
 use borrow.Author.Tests.{eqb-true, eqb-false, ne-eqb}
 use Rattle.text.specs.Cells.{pieces}
-use Rattle.text.specs.Decimals.{Verdict, blank, wrong, outOfRange, good}
-use Rattle.text.specs.Judge.{Kind, measured, latitude, longitude, depth, flag, ctdFlag, expocode, stnnbr, castno, date, time, free, kindOf, judge, ofKind, inFlags, wholeOf, unlessBlank}
+use Rattle.text.specs.Verdicts.{Verdict, blank, wrong, outOfRange, good}
+use Rattle.text.specs.Kinds.{Kind, measured, latitude, longitude, depth, flag, ctdFlag, expocode, stnnbr, castno, date, time, free, kindOf}
+use Rattle.text.specs.Judge.{judge, ofKind, inSet, inFlags, wholeOf, unlessBlank}
 use Rattle.text.specs.Reading.{readNumber, isDecimal, readingOf}
 use Rattle.text.specs.Spaces.{trim}
 use Rattle.text.proofs.DecimalLaws.{Small}
 use Rattle.text.proofs.JudgeLaws.{judge-small}
+use Rattle.text.proofs.KindLaws.{set-parts}
 use Rattle.exchange.specs.declared.Flagged.{Flagged}
 use Rattle.exchange.specs.Faults.{Fault, clean, breaks, _then_, unless, kindFault, firstOf}
 use Rattle.exchange.specs.Columns.{kindOfName, kindsOf}
@@ -150,13 +152,14 @@ in-flags : (ctd : Bool) (w : Verdict) (m : Bool) (v d : ℕ) → inFlags ctd w �
 in-flags ctd blank m v d e = let z : _≡_ {A = ℕ} 0 1 = cc in absurd (omega arith)
 in-flags ctd wrong m v d e = let z : _≡_ {A = ℕ} 0 1 = cc in absurd (omega arith)
 in-flags ctd outOfRange m v d e = let z : _≡_ {A = ℕ} 0 1 = cc in absurd (omega arith)
-in-flags ctd (good a x b) m v d e = go ctd (eqb x 0) (eqb x 8) refl refl e
+in-flags ctd (good a x b) m v d e = go (inSet ctd x) refl e
   where
-    go : (ctd y z : Bool) → eqb x 0 ≡ y → eqb x 8 ≡ z → cond (y || (ctd && z)) outOfRange (good a x b) ≡ good m v d → (v ≡ 0 → ⊥) × (ctd ≡ true → v ≡ 8 → ⊥)
-    go ctd true z p q e = let z : _≡_ {A = ℕ} 0 1 = cc in absurd (omega arith)
-    go true false true p q e = let z : _≡_ {A = ℕ} 0 1 = cc in absurd (omega arith)
-    go true false false p q e = let w : x ≡ v = cc in (λ h. eqb-false x 0 p (w ∙ h), λ a h. eqb-false x 8 q (w ∙ h))
-    go false false z p q e = let w : x ≡ v = cc in (λ h. eqb-false x 0 p (w ∙ h), λ a h. let z : _≡_ {A = ℕ} 0 1 = cc in omega arith)
+    go : (z : Bool) → inSet ctd x ≡ z → cond z (good a x b) outOfRange ≡ good m v d → (v ≡ 0 → ⊥) × (ctd ≡ true → v ≡ 8 → ⊥)
+    go true p e =
+        let s = set-parts ctd x p in
+        let w : x ≡ v = cc in
+        (λ h. let z : x ≡ 0 = w ∙ h in omega (arith, s .0), λ c h. s .2 c (w ∙ h))
+    go false p e = let z : _≡_ {A = ℕ} 0 1 = cc in absurd (omega arith)
 
 -- a flag of a flag column
 module _ (ctd : Bool) (f : List ℕ → Verdict) where

@@ -11,9 +11,10 @@ use lib.Dec.{eqb, ltb}
 use lib.IntN.{ℤ, pos, negℤ}
 use borrow.Author.Tests.{eqb-true, eqb-false, eq-eqb, ne-eqb, ltb-false}
 use Rattle.text.specs.declared.Reading.the-variants.{Present, Missing}
-use Rattle.text.specs.Decimals.{Verdict, blank, wrong, outOfRange, good}
-use Rattle.text.specs.Judge.{Kind, measured, latitude, longitude, depth, kindOf, judge, judgedOf}
-use Rattle.text.specs.Reading.{signed, doubleOf, isMissing, readNumber, isDecimal, readingOf}
+use Rattle.text.specs.Verdicts.{Verdict, blank, wrong, outOfRange, good, signed}
+use Rattle.text.specs.Kinds.{Kind, measured, latitude, longitude, depth, kindOf}
+use Rattle.text.specs.Judge.{judge, judgedOf}
+use Rattle.text.specs.Reading.{doubleOf, isMissing, readNumber, isDecimal, readingOf}
 use Rattle.text.specs.Rows.{isMissingNumber, missingIn}
 use Rattle.text.proofs.DecimalLaws.{Small}
 use Rattle.text.proofs.JudgeLaws.{largest, judge-small}

@@ -11,8 +11,9 @@ use Rattle.text.specs.declared.Found.the-variants.{At, Nowhere}
 use Rattle.text.specs.Cells.{pieces}
 use Rattle.text.specs.Spaces.{trim}
 use Rattle.text.specs.Names.{isName}
-use Rattle.text.specs.Decimals.{Verdict, blank, wrong, outOfRange, good}
-use Rattle.text.specs.Judge.{kindOf, judge}
+use Rattle.text.specs.Verdicts.{Verdict, blank, wrong, outOfRange, good}
+use Rattle.text.specs.Kinds.{kindOf}
+use Rattle.text.specs.Judge.{judge}
 use Rattle.text.specs.Lines.{illFormed, returnAt, controlAt}
 use Rattle.text.proofs.CellLaws.{both-true}
 use Rattle.exchange.specs.Faults.{Fault, clean, breaks, _then_, firstOf, unless, kindFault, member, hasAll}

@@ -18,10 +18,11 @@ use lib.Seq.{map-set-same, getD-drop}
 use borrow.Author.Tests.{ne-eqb, leb-true}
 use Rattle.text.specs.Bytes.{bytes, every}
 use Rattle.text.specs.Cells.{firstPiece, laterPieces, pieces}
-use Rattle.text.specs.Decimals.{Verdict, blank, wrong, outOfRange, good, front, fraction, unsignedOf, decimalOf}
-use Rattle.text.specs.Spaces.{lead, keep, back, trim}
-use Rattle.text.specs.Judge.{kindOf, ofKind, judge}
-use Rattle.text.specs.Rows.{isGood}
+use Rattle.text.specs.Verdicts.{Verdict, blank, wrong, outOfRange, good, isGood}
+use Rattle.text.specs.Decimals.{front, fraction, unsignedOf, decimalOf}
+use Rattle.text.specs.Spaces.{trimFront, keep, trimEnd, trim}
+use Rattle.text.specs.Kinds.{kindOf}
+use Rattle.text.specs.Judge.{ofKind, judge}
 use Rattle.text.proofs.EqualLaws.{equal-same}
 use Rattle.text.proofs.EveryLaws.{every-cons}
 use Rattle.text.proofs.LineLaws.{isPlain}
@@ -75,7 +76,7 @@ rules-kept ks ts i u g e =
 
 -- ---- a row with a measured column is not the line END_DATA, whose one cell is no decimal
 end-no-row : (ks : List ℕ) (c : ℕ) → c < length ks → getD ks c 0 ≡ 0 → rowRules ks (bytes "END_DATA" ∷ []) ≡ clean → ⊥
-unfolding rowRules cellFaults rowList firstOf cellList every lead keep back trim front fraction unsignedOf decimalOf kindOf ofKind judge
+unfolding rowRules cellFaults rowList firstOf cellList every trimFront keep trimEnd trim front fraction unsignedOf decimalOf kindOf ofKind judge
 end-no-row [] c h k e = absurd (omega arith)
 end-no-row (x ∷ []) zero h k e =
     let f : breaks 16 1 ≡ clean = subst (λ (y : ℕ). rowRules (y ∷ []) (bytes "END_DATA" ∷ []) ≡ clean) k e in

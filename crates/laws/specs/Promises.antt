@@ -9,9 +9,10 @@ use lib.ListN.{length}
 use lib.IntN.{ℤ, pos, negℤ}
 use Rattle.text.specs.declared.Reading.{Reading}
 use Rattle.text.specs.declared.Reading.the-variants.{Present, Missing, Refused}
-use Rattle.text.specs.Decimals.{Verdict, blank, wrong, outOfRange, good}
-use Rattle.text.specs.Judge.{Kind, measured, latitude, longitude, depth, flag, ctdFlag, kindOf, judge}
-use Rattle.text.specs.Reading.{signed, doubleOf, readNumber, isDecimal}
+use Rattle.text.specs.Verdicts.{Verdict, blank, wrong, outOfRange, good, signed}
+use Rattle.text.specs.Kinds.{Kind, measured, latitude, longitude, depth, flag, ctdFlag, kindOf}
+use Rattle.text.specs.Judge.{judge}
+use Rattle.text.specs.Reading.{doubleOf, readNumber, isDecimal}
 use Rattle.exchange.specs.Faults.{Fault, clean, breaks}
 use Rattle.exchange.specs.Columns.{bottle, ctd, kindsOf}
 use Rattle.exchange.specs.Places.{Table, after, Outcome, accepted, refused, outcomeOf}

@@ -11,10 +11,10 @@ use lib.IntN.{ℤ, pos, negsuc}
 use borrow.Author.Tests.{le-leb, lt-leb, leb-true, ne-eqb, eqb-true, lt-ltb, ltb-true, ltb-false}
 use Rattle.text.specs.Bytes.{isDigit, every, numeral}
 use Rattle.text.specs.Spaces.{trim}
-use Rattle.text.specs.Decimals.{Verdict, wrong, good, front, fraction, settle, unsignedOf, decimalOf}
-use Rattle.text.specs.Judge.{measured, kindOf, judge, ofKind, wholeOf, unlessBlank}
-use Rattle.text.specs.Reading.{signed}
-use Rattle.text.specs.Rows.{isGood, sizeOf}
+use Rattle.text.specs.Verdicts.{Verdict, wrong, good, signed, isGood, sizeOf}
+use Rattle.text.specs.Decimals.{front, fraction, settle, unsignedOf, decimalOf}
+use Rattle.text.specs.Kinds.{measured, kindOf}
+use Rattle.text.specs.Judge.{judge, ofKind, wholeOf, unlessBlank}
 use Rattle.text.proofs.CellLaws.{both-true}
 use Rattle.text.proofs.EveryLaws.{every-cons}
 use Rattle.text.proofs.ScanLaws.{digit-yes, digit-range}

@@ -1,4 +1,4 @@
-use Rattle.text.specs.Scans.{Scan}
+use Rattle.text.specs.Inner.Scans.{Scan}
 use Rattle.exchange.specs.LineWords.{isPlain}
 use Rattle.exchange.proofs.LinePassLaws.{plain-more}
 use Prim.Native.Nat.{ℕ, _+_, _-_, _≤_}

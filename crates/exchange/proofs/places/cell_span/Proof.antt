@@ -4,7 +4,7 @@ use mathlib.Core.Path.{_≡_, refl, sym, _∙_, ap, subst}
 use native.Mathlib.Omega.{arith}
 use lib.ListN.{length, getD}
 use borrow.Author.Needs.{needs}
-use Rattle.text.specs.Cells.{next}
+use Rattle.text.specs.Cells.{cellEnd}
 use Rattle.text.proofs.CellLaws.{stop-moved, stop-short}
 use Rattle.exchange.specs.Grid.{cellSpan}
 use Rattle.exchange.proofs.PlaceLaws.{span-first, span-none, span-more}

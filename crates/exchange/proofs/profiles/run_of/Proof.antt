@@ -8,7 +8,7 @@ use lib.Dec.{ltb}
 use borrow.Author.Needs.{needs}
 use Rattle.text.specs.declared.Keys.{Keys}
 use Rattle.text.specs.Cells.{lineAt}
-use Rattle.text.specs.Scans.{Stop}
+use Rattle.text.specs.Inner.Scans.{Stop}
 use Rattle.exchange.specs.Profiles.{sameKey}
 use Rattle.exchange.specs.RowsWords.{keyAt}
 use Rattle.exchange.proofs.RowLaws.{one-few}

@@ -1,5 +1,5 @@
 use mathlib.Core.Path.{sym, subst}
-use Rattle.text.specs.Scans.{Stop}
+use Rattle.text.specs.Inner.Scans.{Stop}
 use Rattle.exchange.proofs.ValueLaws.{none-read, column-none, column-found}
 use borrow.Author.Needs.{needs}
 use Rattle.exchange.proofs.values.column_value.Statement.{statement}
