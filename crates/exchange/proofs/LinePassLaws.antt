@@ -18,10 +18,10 @@ use Rattle.text.proofs.LineLaws.{plain-well-formed, plain-no-return, plain-no-c
 use Rattle.text.proofs.LineLaws as text
 use Rattle.exchange.specs.declared.lines.Line.{Line}
 use Rattle.exchange.specs.Faults.{clean, breaks, _then_, firstOf}
-use Rattle.exchange.specs.LineRules.{foundFault, lineList, byteList, cutList}
-use Rattle.exchange.specs.RuleWords.{byteRules, lineRules, unended}
-use Rattle.exchange.specs.LineWords.{isPlain}
-use Rattle.exchange.specs.Walks.{lineFault, lineFor, lineOf}
+use Rattle.exchange.specs.LineRules.{foundFault, lineRules, byteRules, unendedRules}
+use Rattle.exchange.specs.Inner.Faults.{byteFault, lineFault, unendedFault}
+use Rattle.exchange.specs.Inner.Lines.{isPlain}
+use Rattle.exchange.specs.Inner.Walks.{lineFaultAt, lineFor, lineOf}
 use Rattle.exchange.proofs.RunLaws.{piece-take}
 
 -- ---- runs of plain bytes
@@ -64,7 +64,7 @@ cond-clean false = refl
 
 pub line-plain : (control : Bool) (s : List ℕ) (i q : ℕ) → Scan isPlain s i q → q < length s → q ≤ i + 8192 → getD s q 0 ≡ 10
     → _≡_ {A = Line} (record { end = q; number = 0; column = 0 }) (lineOf control s i)
-unfolding lineOf lineFault lineRules lineList byteList firstOf
+unfolding lineOf lineFaultAt lineFault lineRules byteRules firstOf
 line-plain control s i q r l h f =
     let w = plain-up-to s i q r l f in
     let x = lineAt s i in
@@ -73,7 +73,7 @@ line-plain control s i q r l h f =
 -- ---- the line whose end was looked for
 module _ (control : Bool) (s : List ℕ) (i e : ℕ) (d : e ≡ i + length (lineAt s i)) where
   pub odd-long : 8192 < e - i → _≡_ {A = Line} (record { end = 0; number = 1; column = 8193 }) (lineOf control s i)
-  unfolding lineOf lineFault lineRules lineList byteList firstOf unended cutList
+  unfolding lineOf lineFaultAt lineFault lineRules byteRules firstOf unendedFault unendedRules
   odd-long z = rw (lt-leb (length (lineAt s i)) 8192 (omega arith)) (go (ltb (i + length (lineAt s i)) (length s)))
     where
       go : (b : Bool) → _≡_ {A = Line} (record { end = 0; number = 1; column = 8193 }) (lineFor (cond b (breaks 1 8193) (breaks 1 8193)) (i + length (lineAt s i)))
@@ -82,13 +82,13 @@ module _ (control : Bool) (s : List ℕ) (i e : ℕ) (d : e ≡ i + length (line
 
   module _ (z : e - i ≤ 8192) where
     pub odd-cut : length s ≤ e → _≡_ {A = Line} (record { end = 0; number = 2; column = e - i + 1 }) (lineOf control s i)
-    unfolding lineOf lineFault unended cutList firstOf
+    unfolding lineOf lineFaultAt unendedFault unendedRules firstOf
     odd-cut h =
         let u : length (lineAt s i) ≡ e - i = omega arith in
         rw (u, le-ltb (i + (e - i)) (length s) (omega arith), le-leb (e - i) 8192 z)
 
-    pub odd-fed : e < length s → lineFor (byteRules control (take (e - i) (drop i s))) e ≡ lineOf control s i
-    unfolding lineOf lineFault lineRules lineList byteList firstOf byteRules
+    pub odd-fed : e < length s → lineFor (byteFault control (take (e - i) (drop i s))) e ≡ lineOf control s i
+    unfolding lineOf lineFaultAt lineFault lineRules byteRules firstOf byteFault
     odd-fed h =
         let u : e - i ≡ length (lineAt s i) = omega arith in
         rw (u, piece-take, sym d, lt-ltb e (length s) h, le-leb (length (lineAt s i)) 8192 (omega arith))
@@ -128,23 +128,23 @@ module _ (x : List ℕ) (j : ℕ) where
   control-inside e = omega (arith, first-inside _ x 0 j e)
 
 module _ (control : Bool) (x : List ℕ) (e j : ℕ) where
-  pub bytes-ill-formed : illFormed x ≡ At j → _≡_ {A = Line} (record { end = 0; number = 3; column = j + 1 }) (lineFor (byteRules control x) e)
-  unfolding byteRules byteList firstOf
+  pub bytes-ill-formed : illFormed x ≡ At j → _≡_ {A = Line} (record { end = 0; number = 3; column = j + 1 }) (lineFor (byteFault control x) e)
+  unfolding byteFault byteRules firstOf
   bytes-ill-formed a = rw a
 
-  pub bytes-return : illFormed x ≡ Nowhere → returnAt x ≡ At j → _≡_ {A = Line} (record { end = 0; number = 4; column = j + 1 }) (lineFor (byteRules control x) e)
-  unfolding byteRules byteList firstOf
+  pub bytes-return : illFormed x ≡ Nowhere → returnAt x ≡ At j → _≡_ {A = Line} (record { end = 0; number = 4; column = j + 1 }) (lineFor (byteFault control x) e)
+  unfolding byteFault byteRules firstOf
   bytes-return a b = rw (a, b)
 
   pub bytes-control : illFormed x ≡ Nowhere → returnAt x ≡ Nowhere → control ≡ true → controlAt x ≡ At j
-      → _≡_ {A = Line} (record { end = 0; number = 5; column = j + 1 }) (lineFor (byteRules control x) e)
-  unfolding byteRules byteList firstOf
+      → _≡_ {A = Line} (record { end = 0; number = 5; column = j + 1 }) (lineFor (byteFault control x) e)
+  unfolding byteFault byteRules firstOf
   bytes-control a b d f = rw (a, b, d, f)
 
 module _ (control : Bool) (x : List ℕ) (e : ℕ) where
   pub bytes-clean : illFormed x ≡ Nowhere → returnAt x ≡ Nowhere → (control ≡ true → controlAt x ≡ Nowhere)
-      → _≡_ {A = Line} (record { end = e; number = 0; column = 0 }) (lineFor (byteRules control x) e)
-  unfolding byteRules byteList firstOf
+      → _≡_ {A = Line} (record { end = e; number = 0; column = 0 }) (lineFor (byteFault control x) e)
+  unfolding byteFault byteRules firstOf
   bytes-clean a b f = rw (a, b) (go control f)
     where
       go : (c : Bool) → (c ≡ true → controlAt x ≡ Nowhere)

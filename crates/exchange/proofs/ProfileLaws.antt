@@ -17,11 +17,11 @@ use Rattle.exchange.specs.declared.rows.Row.{Row}
 use Rattle.exchange.specs.Faults.{clean}
 use Rattle.exchange.specs.Columns.{kindsOf}
 use Rattle.exchange.specs.Places.{Table}
-use Rattle.exchange.specs.RuleWords.{rowRules}
+use Rattle.exchange.specs.Inner.Faults.{rowFault}
 use Rattle.exchange.specs.Profiles.{Key, keyOf, sameKey, labelsFrom, labels, rowsOf}
-use Rattle.exchange.specs.Walks.{linesFrom, rowsFrom, asFault}
-use Rattle.exchange.specs.RowsWords.{keyAt, KeysWithin, cellsOf, RowRead}
-use Rattle.exchange.specs.ProfileWords.{RowLines, none, more, withNoted, RunOf, RunRead}
+use Rattle.exchange.specs.Inner.Walks.{linesFrom, rowsFrom, asFault}
+use Rattle.exchange.specs.Inner.Rows.{keyAt, KeysWithin, cellsOf, RowRead}
+use Rattle.exchange.specs.Inner.Profiles.{RowLines, none, more, withNoted, RunOf, RunRead}
 use Rattle.exchange.proofs.RunLaws.{lines-more, line-feed}
 use Rattle.exchange.proofs.HeaderLaws.{breaks-clean}
 use Rattle.exchange.proofs.RowLaws.{none-within}
@@ -44,7 +44,7 @@ rows-lines (suc n) s t i h =
 
 pub record RowFirst (s ks : List ℕ) (i n : ℕ) : Type 0 where
   pub stop : Stop 44 s i (i + length (lineAt s i))
-  pub rules : rowRules ks (cellsOf s i) ≡ clean
+  pub rules : rowFault ks (cellsOf s i) ≡ clean
   pub later : RowLines s ks (i + length (lineAt s i) + 1) (n - 1)
 
 pub rows-apart : {s ks : List ℕ} {i n : ℕ} → RowLines s ks i n → 0 < n → RowFirst s ks i n
@@ -64,7 +64,7 @@ rows-many {s} {ks} {i} (more {n = m} a b c) =
     ap length (rows-more s i (suc m) (omega arith) (a .room)) ∙ ap (λ (n : ℕ). suc (length (rowsFrom s (i + length (lineAt s i) + 1) n))) d ∙ ap suc (rows-many c)
 
 -- a row that keeps its rules is read with its key
-pub row-key : (s ks : List ℕ) (i : ℕ) (r : Row) → RowRead s ks i r → rowRules ks (cellsOf s i) ≡ clean → keyAt s (r .keys) ≡ keyOf ks (cellsOf s i)
+pub row-key : (s ks : List ℕ) (i : ℕ) (r : Row) → RowRead s ks i r → rowFault ks (cellsOf s i) ≡ clean → keyAt s (r .keys) ≡ keyOf ks (cellsOf s i)
 row-key s ks i r h e = h .key (go (r .number) (h .fault ∙ e))
   where
     go : (n : ℕ) → asFault n (r .at - i + 1) ≡ clean → n ≡ 0

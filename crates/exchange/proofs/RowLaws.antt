@@ -15,7 +15,7 @@ use Rattle.text.specs.declared.CellsRead.{CellsRead}
 use Rattle.text.specs.Cells.{cellAt, next}
 use Rattle.text.specs.Spaces.{trim}
 use Rattle.text.specs.Decimals.{Verdict, blank, wrong, outOfRange, good}
-use Rattle.text.specs.Judge.{kindOf, judge, judgedOf, numberOf}
+use Rattle.text.specs.Judge.{castno, kindOf, judge, judgedOf, numberOf}
 use Rattle.text.specs.Rows.{isGood, sizeOf, isMissingNumber, missingIn, noted, noKeys, endedAt, isLast, cellsFrom, cellsAt}
 use Rattle.text.specs.Scans.{Stop}
 use Rattle.text.proofs.CellLaws.{stop-moved, stop-holds, stop-short, to-end, next-within, next-from, next-in, next-end, next-parts, cell-in, cell-end, pieces-last, pieces-more}
@@ -23,11 +23,11 @@ use Rattle.text.proofs.JudgeLaws.{judged-at, judged-number}
 use Rattle.text.proofs.SpaceLaws.{span-bytes}
 use Rattle.exchange.specs.Faults.{Fault, clean, breaks, _then_, kindFault, firstOf}
 use Rattle.exchange.specs.Profiles.{missingInRow, cellOfKind, keyOf}
-use Rattle.exchange.specs.Walks.{asFault}
+use Rattle.exchange.specs.Inner.Walks.{asFault}
 use Rattle.exchange.specs.declared.rows.Row.{Row}
-use Rattle.exchange.specs.Rows.{cellList, rowList}
-use Rattle.exchange.specs.RuleWords.{cellFaults, rowRules}
-use Rattle.exchange.specs.RowsWords.{spanText, keyAt, KeysWithin, cellsOf, rowRefused, RowRead}
+use Rattle.exchange.specs.Rows.{cellRules, rowRules}
+use Rattle.exchange.specs.Inner.Faults.{cellFault, rowFault}
+use Rattle.exchange.specs.Inner.Rows.{spanText, keyAt, KeysWithin, cellsOf, rowRefused, RowRead}
 
 -- ---- one verdict
 pub fault-good : (v : Verdict) (c : ℕ) → isGood v ≡ true → kindFault v c ≡ clean
@@ -156,23 +156,23 @@ record CellRefused (s : List ℕ) (e : ℕ) (ks : List ℕ) (at g : ℕ) (r : Ce
   stop : Stop 44 s (r .start) e
   left : r .good < g + length ks
   count : length (cellsOf s at) + g ≡ length (cellsOf s (r .start)) + r .good
-  fault : (c : ℕ) → cellFaults c ks (cellsOf s at) ≡ breaks (r .number) (c + (r .start - at))
+  fault : (c : ℕ) → cellFault c ks (cellsOf s at) ≡ breaks (r .number) (c + (r .start - at))
 
 module _ {s : List ℕ} {at e : ℕ} (t : Stop 44 s at e) (k : ℕ) (ks : List ℕ) where
-  faults-bad : (c : ℕ) → isGood (verdictAt s k at) ≡ false → cellFaults c (k ∷ ks) (cellsOf s at) ≡ breaks (numberOf (verdictAt s k at)) c
-  unfolding cellFaults cellList firstOf
+  faults-bad : (c : ℕ) → isGood (verdictAt s k at) ≡ false → cellFault c (k ∷ ks) (cellsOf s at) ≡ breaks (numberOf (verdictAt s k at)) c
+  unfolding cellFault cellRules firstOf
   faults-bad c h = rw (fault-bad (verdictAt s k at) c h)
 
-  faults-last : (c : ℕ) → isGood (verdictAt s k at) ≡ true → getD s (next 44 s at) 0 ≡ 10 → cellFaults c (k ∷ []) (cellsOf s at) ≡ clean
-  unfolding cellFaults cellList firstOf
+  faults-last : (c : ℕ) → isGood (verdictAt s k at) ≡ true → getD s (next 44 s at) 0 ≡ 10 → cellFault c (k ∷ []) (cellsOf s at) ≡ clean
+  unfolding cellFault cellRules firstOf
   faults-last c h z = rw (fault-good (verdictAt s k at) c h)
 
   faults-more : (c : ℕ) → isGood (verdictAt s k at) ≡ true → getD s (next 44 s at) 0 ≡ 44
-      → cellFaults c (k ∷ ks) (cellsOf s at) ≡ cellFaults (c + (next 44 s at - at) + 1) ks (cellsOf s (next 44 s at + 1))
-  unfolding cellFaults cellList firstOf next
+      → cellFault c (k ∷ ks) (cellsOf s at) ≡ cellFault (c + (next 44 s at - at) + 1) ks (cellsOf s (next 44 s at + 1))
+  unfolding cellFault cellRules firstOf next
   faults-more c h z =
       let n : (at + length (cellAt 44 s at)) - at ≡ length (cellAt 44 s at) = omega arith in
-      ap (cellFaults c (k ∷ ks)) (cells-more t z) ∙ rw (n, fault-good (verdictAt s k at) c h)
+      ap (cellFault c (k ∷ ks)) (cells-more t z) ∙ rw (n, fault-good (verdictAt s k at) c h)
 
 judging-refused : {s : List ℕ} {e : ℕ} {js : List ℕ} {at g m : ℕ} {w : Keys} {r : CellsRead} → Judging s e js at g m w r → (r .number ≡ 0 → ⊥) → CellRefused s e js at g r
 judging-refused {s} {e} {js} {at} {g} (bad {k} {ks} t h) z = record {
@@ -249,8 +249,13 @@ cell-span {s} {at} {e} t =
 record KeyHeld (s : List ℕ) (w : Keys) (x y z : List ℕ) : Type 0 where
   expocode : spanText s (w .expocode) ≡ trim x
   stnnbr : spanText s (w .stnnbr) ≡ trim y
-  castno : w .castno ≡ sizeOf (judge (kindOf 8) z)
+  castno : w .castno ≡ sizeOf (judge castno z)
   within : KeysWithin s w
+
+-- CASTNO by its number
+number-castno : (x : List ℕ) → sizeOf (judge (kindOf 8) x) ≡ sizeOf (judge castno x)
+unfolding kindOf
+number-castno x = refl
 
 noted-held : {s : List ℕ} {at e : ℕ} → Stop 44 s at e → (k : ℕ) {w : Keys} {x y z : List ℕ} → KeyHeld s w x y z
     → KeyHeld s (keysTo s k at w) (cond (eqb k 6) (cellAt 44 s at) x) (cond (eqb k 7) (cellAt 44 s at) y) (cond (eqb k 8) (cellAt 44 s at) z)
@@ -290,7 +295,7 @@ noted-held {s} {at} {e} t k {w} {x} {y} {z} h = go (eqb k 6) (eqb k 7) (eqb k 8)
     go false false true p q r = record {
       expocode = h .expocode;
       stnnbr = h .stnnbr;
-      castno = ap (λ (n : ℕ). sizeOf (judge (kindOf n) u)) (eqb-true k 8 r);
+      castno = ap (λ (n : ℕ). sizeOf (judge (kindOf n) u)) (eqb-true k 8 r) ∙ number-castno u;
       within = record { expocode = h .within .expocode; stnnbr = h .within .stnnbr };
     }
     go false false false p q r = h
@@ -308,7 +313,7 @@ none-held s = record { expocode = none; stnnbr = none; castno = refl; within = n
 -- ---- a good row
 record CellsFull (s ks : List ℕ) (at m : ℕ) (w : Keys) (r : CellsRead) : Type 0 where
   count : length (cellsOf s at) ≡ length ks
-  fault : (c : ℕ) → cellFaults c ks (cellsOf s at) ≡ clean
+  fault : (c : ℕ) → cellFault c ks (cellsOf s at) ≡ clean
   missing : r .missing ≡ m + missingInRow ks (cellsOf s at)
   key : (x y z : List ℕ) → KeyHeld s w x y z
       → KeyHeld s (r .keys) (cellOfKind 6 x ks (cellsOf s at)) (cellOfKind 7 y ks (cellsOf s at)) (cellOfKind 8 z ks (cellsOf s at))
@@ -361,16 +366,16 @@ fault-number zero c h = absurd (h refl)
 fault-number (suc n) c h = refl
 
 module _ (ks : List ℕ) (ts : List (List ℕ)) where
-  rules-count : (length ts ≡ length ks → ⊥) → rowRules ks ts ≡ breaks 15 1
-  unfolding rowRules cellFaults rowList firstOf
+  rules-count : (length ts ≡ length ks → ⊥) → rowFault ks ts ≡ breaks 15 1
+  unfolding rowFault cellFault rowRules firstOf
   rules-count h = rw (ne-eqb (length ts) (length ks) h)
 
-  rules-cells : length ts ≡ length ks → rowRules ks ts ≡ cellFaults 1 ks ts
-  unfolding rowRules cellFaults rowList firstOf
+  rules-cells : length ts ≡ length ks → rowFault ks ts ≡ cellFault 1 ks ts
+  unfolding rowFault cellFault rowRules firstOf
   rules-cells h = rw (eq-eqb (length ts) (length ks) h)
 
 -- a row that keeps them
-module _ (ks : List ℕ) (ts : List (List ℕ)) (h : rowRules ks ts ≡ clean) where
+module _ (ks : List ℕ) (ts : List (List ℕ)) (h : rowFault ks ts ≡ clean) where
   kept-count : length ts ≡ length ks
   kept-count = go (eqb (length ts) (length ks)) refl
     where
@@ -381,7 +386,7 @@ module _ (ks : List ℕ) (ts : List (List ℕ)) (h : rowRules ks ts ≡ clean) w
           let z : _≡_ {A = ℕ} 0 1 = cc in
           absurd (omega arith)
 
-  kept-cells : cellFaults 1 ks ts ≡ clean
+  kept-cells : cellFault 1 ks ts ≡ clean
   kept-cells = sym (rules-cells ks ts kept-count) ∙ h
 
 row-short : (s ks : List ℕ) (i : ℕ) → i < length s → (length (cellsOf s i) ≡ length ks → ⊥) → RowRead s ks i (rowRefused i 15)
@@ -451,7 +456,7 @@ module _ (s ks : List ℕ) (i e : ℕ) (t : Stop 44 s i e) (n : 0 < length ks) (
       }
 
   -- the keys of a row that keeps its rules
-  pub row-keys : rowRules ks (cellsOf s i) ≡ clean → KeysWithin s (r .keys) × (keyAt s (r .keys) ≡ keyOf ks (cellsOf s i))
+  pub row-keys : rowFault ks (cellsOf s i) ≡ clean → KeysWithin s (r .keys) × (keyAt s (r .keys) ≡ keyOf ks (cellsOf s i))
   row-keys h = go (eqb (r .number) 0) (eqb (r .good) (length ks)) (eqb (getD s (r .at) 0) 10) refl refl refl
     where
       Keyed : Type 0

@@ -16,10 +16,10 @@ use Rattle.exchange.specs.declared.lines.Line.{Line}
 use Rattle.exchange.specs.declared.top.First.{First}
 use Rattle.exchange.specs.Faults.{clean, breaks, _then_, firstOf, unless}
 use Rattle.exchange.specs.Columns.{Sort, bottle, ctd}
-use Rattle.exchange.specs.Places.{Place, first, comments, stopped, isMark, isBottle, isCtd, firstList, isComment, endList, endRules, stopAt, step, refused, run, outcomeOf}
-use Rattle.exchange.specs.RuleWords.{lineRules}
-use Rattle.exchange.specs.Walks.{linesFrom, StartsAt, lineOf, sortOf, FirstRead}
-use Rattle.exchange.proofs.CellsLaws.{cell-slice}
+use Rattle.exchange.specs.Places.{Place, first, comments, stopped, isMark, isBottle, isCtd, firstLineRules, isComment, lastPieceRules, endRules, stopAt, step, refused, run, outcomeOf}
+use Rattle.exchange.specs.Inner.Faults.{lineFault}
+use Rattle.exchange.specs.Inner.Walks.{linesFrom, StartsAt, lineOf, sortOf, FirstRead}
+use Rattle.exchange.proofs.NamesLineLaws.{cell-slice}
 use Rattle.exchange.proofs.RuleLaws.{first-step, comment-step}
 use Rattle.exchange.proofs.RunLaws.{piece-take, run-stopped, run-line, line-clean, line-broken, line-broken-here, starts-next}
 
@@ -51,11 +51,11 @@ mark-bytes (a ∷ b ∷ c ∷ xs) h = go (eqb a 0xef) (eqb b 0xbb) (eqb c 0xbf)
 
 -- ---- line 1
 pub first-none : (s : List ℕ) → length s ≡ 0 → outcomeOf s ≡ refused 14 1 1
-unfolding outcomeOf run endRules endList firstOf firstPiece laterPieces
+unfolding outcomeOf run endRules lastPieceRules firstOf firstPiece laterPieces
 first-none [] h = refl
 first-none (x ∷ s) h = absurd (omega arith)
 
-first-breaks : (x : List ℕ) (n c : ℕ) → lineRules true x ≡ breaks n c → step 1 first x ≡ stopped n 1 c
+first-breaks : (x : List ℕ) (n c : ℕ) → lineFault true x ≡ breaks n c → step 1 first x ≡ stopped n 1 c
 first-breaks x n c e = first-step 1 x ∙ rw e
 
 module _ (s : List ℕ) (l : Line) (e : l ≡ lineOf true s 0) where
@@ -74,12 +74,12 @@ module _ (s : List ℕ) (l : Line) (e : l ≡ lineOf true s 0) where
         let d : l .end ≡ length (lineAt s 0) = rw e (omega (arith, w .2)) in
         rw d (piece-take 10 s)
 
-    first-run : outcomeOf s ≡ run 2 (stopAt 1 (firstOf (firstList (lineAt s 0))) (comments (cond (isBottle (lineAt s 0)) bottle ctd))) (linesFrom s (l .end + 1))
+    first-run : outcomeOf s ≡ run 2 (stopAt 1 (firstOf (firstLineRules (lineAt s 0))) (comments (cond (isBottle (lineAt s 0)) bottle ctd))) (linesFrom s (l .end + 1))
     unfolding outcomeOf
     first-run =
         let w = line-clean true s 0 (rw e at z) in
         let d : 0 + length (lineAt s 0) ≡ l .end = rw e (sym (w .2)) in
-        let f : step 1 first (lineAt s 0) ≡ stopAt 1 (firstOf (firstList (lineAt s 0))) (comments (cond (isBottle (lineAt s 0)) bottle ctd))
+        let f : step 1 first (lineAt s 0) ≡ stopAt 1 (firstOf (firstLineRules (lineAt s 0))) (comments (cond (isBottle (lineAt s 0)) bottle ctd))
         = first-step 1 (lineAt s 0) ∙ rw (w .0) in
         run-line 1 first s 0 (w .1) ∙ ap (λ (p : Place). run 2 p (linesFrom s (0 + length (lineAt s 0) + 1))) f ∙ rw d
 
@@ -90,14 +90,14 @@ module _ (s : List ℕ) (l : Line) (e : l ≡ lineOf true s 0) where
         rw d at (starts-next s 1 0 (omega arith) refl (w .1))
 
     pub first-marked : isMark (take (l .end) s) ≡ true → outcomeOf s ≡ refused 6 1 1
-    unfolding firstList firstOf
+    unfolding firstLineRules firstOf
     first-marked m =
         let a : isMark (lineAt s 0) ≡ true = rw first-text at m in
         first-run ∙ rw a (run-stopped 2 6 1 1 (linesFrom s (l .end + 1)))
 
     module _ (m : isMark (take (l .end) s) ≡ false) (kind : ℕ) (b : kind ≡ cond (isBottle (lineAt s 0)) 1 (cond (isCtd (lineAt s 0)) 2 0)) where
       pub first-neither : kind ≡ 0 → outcomeOf s ≡ refused 7 1 1
-      unfolding firstList firstOf
+      unfolding firstLineRules firstOf
       first-neither q =
           let a : isMark (lineAt s 0) ≡ false = rw first-text at m in
           let n = go (isBottle (lineAt s 0)) (isCtd (lineAt s 0)) (sym b ∙ q) in
@@ -109,7 +109,7 @@ module _ (s : List ℕ) (l : Line) (e : l ≡ lineOf true s 0) where
           go false false h = (refl, refl)
 
       pub first-on : (kind ≡ 0 → ⊥) → outcomeOf s ≡ run 2 (comments (sortOf kind)) (linesFrom s (l .end + 1))
-      unfolding firstList firstOf
+      unfolding firstLineRules firstOf
       first-on q =
           let a : isMark (lineAt s 0) ≡ false = rw first-text at m in
           first-run ∙ rw a (go (isBottle (lineAt s 0)) (isCtd (lineAt s 0)) b)
@@ -130,7 +130,7 @@ module _ (s : List ℕ) (i : ℕ) (h : i < length s) (b : getD s i 0 ≡ 35) (l 
   comment-broken k n z =
       rw e
       (line-broken-here false s i n (comments k) h (rw e at z)
-      (λ (m c : ℕ) (d : lineRules false (lineAt s i) ≡ breaks m c). comment-step n k (lineAt s i) (comment-line s i h b) ∙ rw d) tt)
+      (λ (m c : ℕ) (d : lineFault false (lineAt s i) ≡ breaks m c). comment-step n k (lineAt s i) (comment-line s i h b) ∙ rw d) tt)
 
   module _ (z : l .number ≡ 0) where
     pub comment-room : (i < l .end) × (l .end < length s)

@@ -9,7 +9,8 @@ use Rattle.text.specs.Bytes.{bytes, equal}
 use Rattle.text.specs.Cells.{pieces}
 use Rattle.text.specs.Spaces.{trim}
 use Rattle.text.specs.Names.{isName, parameterLength, beginsCtd}
-use Rattle.text.specs.Catalogue.{names, kinds, kindIn}
+use Rattle.text.specs.Judge.{flag, ctdFlag}
+use Rattle.text.specs.Catalogue.{codeOf, names, kinds, kindIn}
 use Rattle.exchange.specs.Faults.{Fault, unless, member, hasAll}
 use Rattle.exchange.specs.Headers.{stationNames}
 
@@ -18,13 +19,13 @@ pub data Sort : Type 0 where
   bottle ctd : Sort
 
 -- the cells from the one at column c, after the earlier names: 11, 10, 9
-unfoldable pub nameList : ℕ → List (List ℕ) → List (List ℕ) → List Fault
-nameList c earlier [] = []
-nameList c earlier (t ∷ ts) =
+unfoldable pub nameRules : ℕ → List (List ℕ) → List (List ℕ) → List Fault
+nameRules c earlier [] = []
+nameRules c earlier (t ∷ ts) =
     unless (ltb (length earlier) 256) 11 c
     ∷ unless (isName (trim t)) 10 c
     ∷ unless (not (member (trim t) earlier)) 9 c
-    ∷ nameList (c + length t + 1) (earlier ++ trim t ∷ []) ts
+    ∷ nameRules (c + length t + 1) (earlier ++ trim t ∷ []) ts
 
 -- a flag column's name, and its parameter's
 abbrev pub isFlag : List ℕ → Bool
@@ -38,9 +39,9 @@ unfoldable pub hasParameter : List (List ℕ) → List ℕ → Bool
 hasParameter ns n = not (isFlag (parameterOf n)) && member (parameterOf n) ns
 
 -- 12 from the left, among the names ns
-unfoldable pub flagList : ℕ → List (List ℕ) → List (List ℕ) → List Fault
-flagList c ns [] = []
-flagList c ns (t ∷ ts) = unless (not (isFlag (trim t)) || hasParameter ns (trim t)) 12 c ∷ flagList (c + length t + 1) ns ts
+unfoldable pub flagRules : ℕ → List (List ℕ) → List (List ℕ) → List Fault
+flagRules c ns [] = []
+flagRules c ns (t ∷ ts) = unless (not (isFlag (trim t)) || hasParameter ns (trim t)) 12 c ∷ flagRules (c + length t + 1) ns ts
 
 -- 13: the required names of the line
 abbrev pub requiredNames : Sort → List (List ℕ)
@@ -50,27 +51,21 @@ requiredNames ctd = bytes "CTDPRS" ∷ []
 abbrev pub namesOf : List ℕ → List (List ℕ)
 namesOf x = map trim (pieces 44 x)
 
-unfoldable pub namesList : Sort → List ℕ → List Fault
-namesList k x = nameList 1 [] (pieces 44 x) ++ flagList 1 (namesOf x) (pieces 44 x) ++ unless (hasAll (requiredNames k) (namesOf x)) 13 1 ∷ []
+unfoldable pub namesLineRules : Sort → List ℕ → List Fault
+namesLineRules k x = nameRules 1 [] (pieces 44 x) ++ flagRules 1 (namesOf x) (pieces 44 x) ++ unless (hasAll (requiredNames k) (namesOf x)) 13 1 ∷ []
 
--- the record of a column: its kind (text's numbers), and the place of its flag column from 1, 0 where it has none
-pub record Column : Type 0 where
-  pub kind : ℕ
-  pub flag : ℕ
-
+-- the kind of the column of a name, as the code's number
 unfoldable pub kindOfName : List ℕ → ℕ
-kindOfName n = cond (isFlag n) (cond (beginsCtd (parameterOf n)) 5 4) (kindIn names kinds n)
+kindOfName n = cond (isFlag n) (cond (beginsCtd (parameterOf n)) (codeOf ctdFlag) (codeOf flag)) (kindIn names kinds n)
 
--- the place of the flag column of n, the first of the list standing at place k
+-- the place of the flag column of the name n, the first of the list standing at place k; 0 where there is none
 unfoldable pub flagFrom : ℕ → List ℕ → List (List ℕ) → ℕ
 flagFrom k n [] = 0
 flagFrom k n (x ∷ xs) = cond (isFlag x && equal (parameterOf x) n) k (flagFrom (k + 1) n xs)
 
-abbrev pub columnOf : List (List ℕ) → List ℕ → Column
-columnOf ns n = record { kind = kindOfName n; flag = flagFrom 1 n ns }
-
-abbrev pub columnsOf : List (List ℕ) → List Column
-columnsOf ns = map (columnOf ns) ns
-
+-- of each column of the names line: its kind, and the place of its flag column from 1, 0 where it has none
 abbrev pub kindsOf : List (List ℕ) → List ℕ
 kindsOf ns = map kindOfName ns
+
+abbrev pub flagsOf : List (List ℕ) → List ℕ
+flagsOf ns = map (λ (n : List ℕ). flagFrom 1 n ns) ns

@@ -1,9 +1,9 @@
 -- Document 01, "Lines": where lines and cells stand in a file, from the lengths of its pieces alone.
 use Prim.Native.Nat.{ℕ, zero, suc, _+_}
 use mathlib.Core.List.{List, [], _∷_, map}
-use mathlib.Core.Bool.{Bool, cond}
+use mathlib.Core.Bool.{cond}
 use lib.ListN.{length, getD, drop}
-use lib.Dec.{eqb, ltb}
+use lib.Dec.{ltb}
 use Rattle.text.specs.declared.Span.{Span}
 use Rattle.text.specs.Cells.{lineAt, pieces}
 
@@ -24,16 +24,3 @@ spanIn i ts k = cond (ltb k (length ts)) (record { start = i + starts (map lengt
 -- of the line that starts at i
 abbrev pub cellSpan : List ℕ → ℕ → ℕ → Span
 cellSpan s i k = spanIn i (pieces 44 (lineAt s i)) k
-
--- for the code's inner functions: how many line feeds a list has; how many bytes go up to and with its k-th line feed, all where it has fewer
-unfoldable pub feedsIn : List ℕ → ℕ
-feedsIn [] = 0
-feedsIn (x ∷ xs) = cond (eqb x 10) 1 0 + feedsIn xs
-
-unfoldable pub skip : ℕ → List ℕ → ℕ
-skip zero xs = 0
-skip (suc k) [] = 0
-skip (suc k) (x ∷ xs) = suc (cond (eqb x 10) (skip k xs) (skip (suc k) xs))
-
-abbrev pub skipped : List ℕ → ℕ → ℕ → ℕ
-skipped s i k = i + skip k (drop i s)

@@ -15,16 +15,16 @@ abbrev pub foundFault : ℕ → Found → Fault
 foundFault n (At i) = breaks n (i + 1)
 foundFault n Nowhere = clean
 
-abbrev pub tooLong : List ℕ → Fault
-tooLong x = unless (leb (length x) 8192) 1 8193
+abbrev pub lineTooLong : List ℕ → Fault
+lineTooLong x = unless (leb (length x) 8192) 1 8193
 
 -- a line that has its line feed
-unfoldable pub byteList : Bool → List ℕ → List Fault
-byteList control x = foundFault 3 (illFormed x) ∷ foundFault 4 (returnAt x) ∷ cond control (foundFault 5 (controlAt x)) clean ∷ []
+unfoldable pub byteRules : Bool → List ℕ → List Fault
+byteRules control x = foundFault 3 (illFormed x) ∷ foundFault 4 (returnAt x) ∷ cond control (foundFault 5 (controlAt x)) clean ∷ []
 
-unfoldable pub lineList : Bool → List ℕ → List Fault
-lineList control x = tooLong x ∷ byteList control x
+unfoldable pub lineRules : Bool → List ℕ → List Fault
+lineRules control x = lineTooLong x ∷ byteRules control x
 
 -- the last line, where it has none: 1 or 2, one past its end
-unfoldable pub cutList : List ℕ → List Fault
-cutList x = tooLong x ∷ breaks 2 (length x + 1) ∷ []
+unfoldable pub unendedRules : List ℕ → List Fault
+unendedRules x = lineTooLong x ∷ breaks 2 (length x + 1) ∷ []

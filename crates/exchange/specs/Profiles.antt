@@ -8,7 +8,8 @@ use lib.Dec.{eqb}
 use Rattle.text.specs.Bytes.{equal}
 use Rattle.text.specs.Cells.{pieces}
 use Rattle.text.specs.Spaces.{trim}
-use Rattle.text.specs.Judge.{kindOf, judge}
+use Rattle.text.specs.Judge.{expocode, stnnbr, castno, kindOf, judge}
+use Rattle.text.specs.Catalogue.{codeOf}
 use Rattle.text.specs.Rows.{sizeOf, missingIn}
 
 -- the lines of a file as lists of cells
@@ -39,9 +40,9 @@ pub record Key : Type 0 where
 
 abbrev pub keyOf : List ℕ → List (List ℕ) → Key
 keyOf ks ts = record {
-  expocode = trim (cellOfKind 6 [] ks ts);
-  stnnbr = trim (cellOfKind 7 [] ks ts);
-  castno = sizeOf (judge (kindOf 8) (cellOfKind 8 [] ks ts));
+  expocode = trim (cellOfKind (codeOf expocode) [] ks ts);
+  stnnbr = trim (cellOfKind (codeOf stnnbr) [] ks ts);
+  castno = sizeOf (judge castno (cellOfKind (codeOf castno) [] ks ts));
 }
 
 abbrev pub sameKey : Key → Key → Bool

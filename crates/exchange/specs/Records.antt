@@ -9,7 +9,7 @@ use Rattle.text.specs.declared.Span.{Span}
 use Rattle.text.specs.Bytes.{bytes, equal}
 use Rattle.text.specs.Cells.{pieces}
 use Rattle.text.specs.Decimals.{Verdict, blank, wrong, outOfRange, good}
-use Rattle.text.specs.Judge.{kindOf, judge}
+use Rattle.text.specs.Judge.{Kind, castno, date, time, judge}
 use Rattle.text.specs.Rows.{sizeOf}
 use Rattle.exchange.specs.declared.CastTime.{CastTime}
 use Rattle.exchange.specs.declared.CastTime.the-variants.{Given, Missing}
@@ -70,9 +70,9 @@ unfoldable pub profileRows : Table → ℕ → List ℕ → ℕ → List ℕ
 profileRows t n f k = rowsOf k 1 (labelsBy (t .sort) (map (keyOf (kindsOf (t .names))) (rowsIn t n f)))
 
 -- ---- the record
--- the number that a value of a kind writes
-abbrev pub numberIn : ℕ → Value → ℕ
-numberIn k (given x p) = sizeOf (judge (kindOf k) x)
+-- the number that a value of a kind writes; 0 where there is none
+abbrev pub numberIn : Kind → Value → ℕ
+numberIn k (given x p) = sizeOf (judge k x)
 numberIn k absent = 0
 
 -- -999 is minus 999 as a time (Judge: timeOf)
@@ -84,7 +84,7 @@ timeIn (good m v d) = cond m Missing (Given (v / 100) (v % 100))
 
 -- missing too where there is no TIME
 abbrev pub castTime : Value → CastTime
-castTime (given x p) = timeIn (judge (kindOf 10) x)
+castTime (given x p) = timeIn (judge time x)
 castTime absent = Missing
 
 abbrev pub noProfile : ℕ → ℕ → ℕ → ProfileRecord
@@ -100,8 +100,8 @@ recordOf t f (r ∷ rs) = record {
   time = castTime (stationValue t f r (bytes "TIME"));
   first = r;
   rows = length (r ∷ rs);
-  castno = numberIn 8 (stationValue t f r (bytes "CASTNO"));
-  date = numberIn 9 (stationValue t f r (bytes "DATE"));
+  castno = numberIn castno (stationValue t f r (bytes "CASTNO"));
+  date = numberIn date (stationValue t f r (bytes "DATE"));
 }
 
 abbrev pub profileBy : List ℕ → ℕ → Outcome → ProfileRecord

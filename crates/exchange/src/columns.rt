@@ -9,15 +9,15 @@ ghost use Rattle.text.specs.Names.{beginsCtd};
 ghost use Rattle.exchange.specs.declared.names.NameFault.the-variants.{Clean};
 ghost use Rattle.exchange.specs.Faults.{hasAll};
 ghost use Rattle.exchange.specs.Columns.{Sort, namesOf, requiredNames};
-ghost use Rattle.exchange.specs.NameWords.{faultIn};
-ghost use Rattle.exchange.specs.ColumnWords.{Ends, Placed, CellsFound, KindsRead, parameterPlace};
-ghost use Rattle.exchange.specs.Walks.{ColumnsRead, sortFor, namesAt};
+ghost use Rattle.exchange.specs.Inner.Names.{faultIn};
+ghost use Rattle.exchange.specs.Inner.Columns.{Ends, Placed, CellsFound, KindsRead, parameterPlace};
+ghost use Rattle.exchange.specs.Inner.Walks.{ColumnsRead, sortFor, namesAt};
+use crate::grid::cell_end;
 use crate::names::NameFault;
 use crate::names::first_fault;
 use crate::names::has_station;
 use crate::names::name_at;
 use crate::names::place_of;
-use crate::places::cell_end;
 
 // The most columns.
 pub const MOST_COLUMNS: usize = 256;

@@ -4,8 +4,8 @@ ghost use Prim.Native.Nat.{_+_, _≤_, _<_};
 ghost use lib.ListN.{length, getD};
 ghost use Rattle.text.specs.Cells.{lineAt};
 ghost use Rattle.exchange.specs.Headers.{rawName, headersSaid, headerKind};
-ghost use Rattle.exchange.specs.HeadersWords.{Parted, namedFault, headerFault, HeaderRead, Begun, HeadersPlaced};
-ghost use Rattle.exchange.specs.Walks.{namesAt, HeadersRead};
+ghost use Rattle.exchange.specs.Inner.Headers.{Parted, namedFaultAt, headerFaultAt, HeaderRead, Begun, HeadersPlaced};
+ghost use Rattle.exchange.specs.Inner.Walks.{namesAt, HeadersRead};
 use crate::lines::line_at;
 use crate::names::has_station;
 use crate::names::place_of;
@@ -61,7 +61,7 @@ fn header_refused(end: usize, number: u64, column: u64) -> Header
 // The line that starts at `at`: rules 1 to 5, then a good name before an =.
 fn named_line(s: &[u8], at: usize) -> Header
     requires { ⌜ at < length (now s) ⌝ }
-    ensures { λ r. ⌜ HeaderRead (namedFault (now (s .entry)) at) (now (s .entry)) at r ⌝ }
+    ensures { λ r. ⌜ HeaderRead (namedFaultAt (now (s .entry)) at) (now (s .entry)) at r ⌝ }
 {
     let l = line_at(s, at, true);
     if l.number != 0 {
@@ -123,7 +123,7 @@ fn header_line<'a>(
     count: usize,
 ) -> Header
     requires { ⌜ (at < length (now s)) × (count ≤ length (now starts)) × (count ≤ length (now ends)) ⌝ }
-    ensures { λ r. ⌜ HeaderRead (headerFault (namesAt (now (s .entry)) count (now (starts .entry)) (now (ends .entry))) (now (s .entry)) at) (now (s .entry)) at r ⌝ }
+    ensures { λ r. ⌜ HeaderRead (headerFaultAt (namesAt (now (s .entry)) count (now (starts .entry)) (now (ends .entry))) (now (s .entry)) at) (now (s .entry)) at r ⌝ }
 {
     let h = named_line(s, at);
     if h.number != 0 {

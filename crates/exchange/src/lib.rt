@@ -7,15 +7,15 @@ ghost use Rattle.exchange.specs.Records.{profileOf, stationedOf, station
 use text::Reading;
 use text::Span;
 
-mod asking;
+mod cells;
 mod columns;
+mod grid;
 mod headers;
 mod lines;
 mod names;
-mod places;
 mod profiles;
 mod rows;
-mod survey;
+mod table;
 mod top;
 mod values;
 
@@ -88,7 +88,7 @@ pub struct Located {
 pub fn check(file: &[u8]) -> Checked
     ensures { λ r. ⌜ r ≡ checkedOf (now (file .entry)) ⌝ }
 {
-    let v = survey::survey_of(file);
+    let v = table::table_of(file);
     if v.number != 0 {
         return Checked {
             number: v.number,
@@ -109,7 +109,7 @@ pub fn check(file: &[u8]) -> Checked
             kind: FileKind::Bottle,
             columns: v.columns as u64,
             rows: v.rows,
-            profiles: v.runs,
+            profiles: v.profiles,
             missing: v.missing,
         };
     }
@@ -129,7 +129,7 @@ pub fn check(file: &[u8]) -> Checked
 pub fn cell_place(file: &[u8], row: u64, column: u64) -> CellPlace
     ensures { λ r. ⌜ r ≡ placeFor (now (file .entry)) row column ⌝ }
 {
-    let a = asking::ask(file, row, column);
+    let a = cells::find_cell(file, row, column);
     if a.number != 0 {
         return CellPlace {
             number: a.number,
@@ -162,7 +162,7 @@ pub fn cell<'a>(file: &'a [u8], row: u64, column: u64, refusal: &mut [u64; 3]) -
 pub fn decimal(file: &[u8], row: u64, column: u64) -> Reading
     ensures { λ r. ⌜ r ≡ readingFor (now (file .entry)) row column ⌝ }
 {
-    let a = asking::ask(file, row, column);
+    let a = cells::find_cell(file, row, column);
     if a.number != 0 {
         return Reading::Refused {
             number: a.number,
@@ -177,7 +177,7 @@ pub fn decimal(file: &[u8], row: u64, column: u64) -> Reading
 pub fn flag(file: &[u8], row: u64, column: u64) -> Flagged
     ensures { λ r. ⌜ r ≡ flaggedOf (now (file .entry)) row column ⌝ }
 {
-    let a = asking::ask(file, row, column);
+    let a = cells::find_cell(file, row, column);
     if a.number != 0 {
         return Flagged {
             number: a.number,
@@ -207,7 +207,7 @@ pub fn flag(file: &[u8], row: u64, column: u64) -> Flagged
 pub fn locate(file: &[u8], row: u64, column: u64) -> Located
     ensures { λ r. ⌜ r ≡ locatedOf (now (file .entry)) row column ⌝ }
 {
-    let a = asking::ask(file, row, column);
+    let a = cells::find_cell(file, row, column);
     if a.number != 0 {
         return Located {
             number: a.number,
@@ -229,9 +229,9 @@ pub fn locate(file: &[u8], row: u64, column: u64) -> Located
             len: a.len,
         },
         measured: a.kind == 0,
-        ctd: asking::is_ctd(file, a.names, (column - 1) as usize),
+        ctd: cells::is_ctd(file, a.names, (column - 1) as usize),
         flagged: 0 < a.flag,
-        flag: asking::place_in(file, a.at, a.feed, a.flag as usize),
+        flag: cells::place_in(file, a.at, a.feed, a.flag as usize),
     }
 }
 

@@ -4,11 +4,11 @@ ghost use mathlib.Core.Bool.{false};
 ghost use Prim.Native.Nat.{_+_, min, _≤_, _<_};
 ghost use lib.ListN.{length};
 ghost use Rattle.text.specs.Scans.{Scan};
-ghost use Rattle.exchange.specs.LineWords.{isPlain, Plain};
-ghost use Rattle.exchange.specs.Walks.{lineFor, lineOf};
-use crate::places::line_end;
+ghost use Rattle.exchange.specs.Inner.Lines.{isPlain, Plain};
+ghost use Rattle.exchange.specs.Inner.Walks.{lineFor, lineOf};
+use crate::grid::line_end;
 use text::Found;
-ghost use Rattle.exchange.specs.RuleWords.{byteRules};
+ghost use Rattle.exchange.specs.Inner.Faults.{byteFault};
 
 // The most bytes of a line.
 pub const MOST_BYTES: usize = 8192;
@@ -107,7 +107,7 @@ fn limit_of(n: usize, at: usize) -> usize
 
 // The first broken rule of 3, 4 and, where it is asked, 5.
 fn byte_rules(line: &[u8], end: usize, control: bool) -> Line
-    ensures { λ r. ⌜ r ≡ lineFor (byteRules control (now (line .entry))) end ⌝ }
+    ensures { λ r. ⌜ r ≡ lineFor (byteFault control (now (line .entry))) end ⌝ }
 {
     if let Found::At(i) = text::ill_formed(line) {
         return Line {

@@ -2,17 +2,17 @@
 ghost use mathlib.Core.Path.{_≡_};
 ghost use Prim.Native.Nat.{_≤_, _<_};
 ghost use lib.ListN.{length};
-ghost use Rattle.exchange.specs.SurveyWords.{SurveyRead};
-ghost use Rattle.exchange.specs.ProfileWords.{RowLines, withNoted, RunRead};
-ghost use Rattle.exchange.specs.ValueWords.{RunFound, ValuesStand, StationRead, ProfileRead};
-use crate::places::line_end;
-use crate::places::line_start;
+ghost use Rattle.exchange.specs.Inner.Table.{FileRead};
+ghost use Rattle.exchange.specs.Inner.Profiles.{RowLines, withNoted, RunRead};
+ghost use Rattle.exchange.specs.Inner.Values.{RunFound, ValuesStand, StationRead, ProfileRead};
+use crate::grid::line_end;
+use crate::grid::line_start;
 use crate::rows::no_keys;
 use crate::rows::one;
 use crate::rows::read_row;
 use crate::rows::same_keys;
-use crate::survey::Survey;
-use crate::survey::survey_of;
+use crate::table::FileTable;
+use crate::table::table_of;
 use crate::values::ValueAt;
 use crate::values::column_value;
 use crate::values::header_value;
@@ -68,8 +68,8 @@ pub fn run_of<'a>(s: &'a [u8], start: usize, n: u64, kinds: &'a [u8], k: u64) ->
 }
 
 // The rows of profile k of a file that is checked: a CTD file is one profile.
-fn run_in(s: &[u8], v: Survey, k: u64) -> Run
-    requires { ⌜ SurveyRead (now s) v × (v .number ≡ 0) ⌝ }
+fn run_in(s: &[u8], v: FileTable, k: u64) -> Run
+    requires { ⌜ FileRead (now s) v × (v .number ≡ 0) ⌝ }
     ensures { λ r. ⌜ RunFound (now (s .entry)) v k r ⌝ }
 {
     if v.kind == 1 {
@@ -119,7 +119,7 @@ fn no_profile(number: u64, line: u64, column: u64) -> ProfileAt
 pub fn profile_at(s: &[u8], k: u64) -> ProfileAt
     ensures { λ r. ⌜ ProfileRead (now (s .entry)) k r ⌝ }
 {
-    let v = survey_of(s);
+    let v = table_of(s);
     if v.number != 0 {
         return no_profile(v.number, v.line, v.column);
     }

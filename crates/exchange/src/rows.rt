@@ -9,10 +9,10 @@ ghost use Rattle.text.specs.Rows.{noKeys};
 ghost use Rattle.text.specs.Scans.{Stop};
 ghost use Rattle.exchange.specs.Rows.{isEndData};
 ghost use Rattle.exchange.specs.Profiles.{sameKey};
-ghost use Rattle.exchange.specs.Walks.{DataRead};
-ghost use Rattle.exchange.specs.RowsWords.{spanText, keyAt, KeysWithin, cellsOf, rowRefused, RowRead, dataRefused, withRow, DataHeld, LineRead};
+ghost use Rattle.exchange.specs.Inner.Walks.{DataRead};
+ghost use Rattle.exchange.specs.Inner.Rows.{spanText, keyAt, KeysWithin, cellsOf, rowRefused, RowRead, dataRefused, withRow, DataHeld, LineRead};
+use crate::grid::cells_between;
 use crate::lines::line_at;
-use crate::places::cells_between;
 use text::Keys;
 use text::Span;
 

@@ -6,9 +6,9 @@ ghost use lib.ListN.{length};
 ghost use Rattle.text.specs.Cells.{lineAt};
 ghost use Rattle.text.specs.Scans.{Stop};
 ghost use Rattle.exchange.specs.Places.{isMark, isBottle, isCtd};
-ghost use Rattle.exchange.specs.Walks.{FirstRead, CommentsRead};
+ghost use Rattle.exchange.specs.Inner.Walks.{FirstRead, CommentsRead};
+use crate::grid::cell_end;
 use crate::lines::line_at;
-use crate::places::cell_end;
 
 // A place of the file: the next line starts at `at` and has that number; or the first broken rule.
 pub struct Walk {

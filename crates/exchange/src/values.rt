@@ -1,13 +1,13 @@
 // The value of a name, by place: of a header, or of a column in a row.
 ghost use mathlib.Core.Path.{_≡_};
 ghost use mathlib.Core.Bool.{false};
-ghost use Rattle.exchange.specs.ValueWords.{ValueRead, NumberRead, TimeRead, HeadersStand, HeaderFound, ColumnsStand, valueIn};
+ghost use Rattle.exchange.specs.Inner.Values.{ValueRead, NumberRead, TimeRead, HeadersStand, HeaderFound, ColumnsStand, valueIn};
 use crate::CastTime;
 use crate::columns::cells_of;
+use crate::grid::cell_span;
+use crate::grid::line_end;
 use crate::headers::equals_from;
 use crate::names::place_of;
-use crate::places::cell_span;
-use crate::places::line_end;
 
 // Where a value stands, with its spaces: a cell parted by the separator, in a line whose line feed stands at `feed`. Not found: there is none of that name.
 pub struct ValueAt {

@@ -2,7 +2,7 @@ use mathlib.Core.Path.{sym, _∙_}
 use lib.ListN.{length}
 use borrow.Author.Needs.{needs}
 use borrow.Author.Tests.{eq-eqb, ne-eqb}
-use Rattle.exchange.specs.RowsWords.{cellsOf}
+use Rattle.exchange.specs.Inner.Rows.{cellsOf}
 use Rattle.exchange.proofs.rows.refused_at.Statement.{statement}
 use Rattle.exchange.proofs.rows.refused_at.Tie as tie
 

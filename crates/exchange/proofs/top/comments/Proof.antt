@@ -5,7 +5,7 @@ use lib.ListN.{length}
 use borrow.Author.Needs.{needs}
 use Rattle.exchange.specs.Columns.{Sort}
 use Rattle.exchange.specs.Places.{comments, run}
-use Rattle.exchange.specs.Walks.{linesFrom, StartsAt}
+use Rattle.exchange.specs.Inner.Walks.{linesFrom, StartsAt}
 use Rattle.exchange.proofs.TopLaws.{comment-broken, comment-room, comment-counted, comment-on}
 use Rattle.exchange.proofs.top.comments.Statement.{statement}
 use Rattle.exchange.proofs.top.comments.Tie as tie

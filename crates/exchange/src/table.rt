@@ -1,0 +1,192 @@
+// The whole file checked: the run over its lines.
+ghost use mathlib.Core.Path.{_≡_};
+ghost use Prim.Native.Nat.{_+_, _^_, _≤_, _<_};
+ghost use lib.ListN.{length};
+ghost use Rattle.exchange.specs.Inner.Walks.{sortOf};
+ghost use Rattle.exchange.specs.Inner.Table.{kindsIn, TailRead, Told, RowsRead, UnitsRead, NamesRead, FileRead};
+use crate::columns::Columns;
+use crate::columns::read_columns;
+use crate::grid::cells_between;
+use crate::headers::read_headers;
+use crate::lines::line_at;
+use crate::rows::read_data;
+use crate::top::Walk;
+use crate::top::comments;
+use crate::top::first_line;
+
+// What the check finds out about a file: the first broken rule, or its table. The data lines start at `data`, the names line at `names`, the headers, in a
+// CTD file, at `headers`.
+pub struct FileTable {
+    pub number: u64,
+    pub line: u64,
+    pub column: u64,
+    pub kind: u8,
+    pub columns: usize,
+    pub kinds: [u8; 256],
+    pub flags: [u16; 256],
+    pub rows: u64,
+    pub profiles: u64,
+    pub missing: u64,
+    pub headers: usize,
+    pub names: usize,
+    pub data: usize,
+}
+
+fn refused(number: u64, line: u64, column: u64) -> FileTable
+    ensures { λ r. ⌜ (r .number ≡ number) × (r .line ≡ line) × (r .column ≡ column) ⌝ }
+{
+    FileTable {
+        number,
+        line,
+        column,
+        kind: 0,
+        columns: 0,
+        kinds: [0; 256],
+        flags: [0; 256],
+        rows: 0,
+        profiles: 0,
+        missing: 0,
+        headers: 0,
+        names: 0,
+        data: 0,
+    }
+}
+
+// The lines after END_DATA: rules 1 to 4. The first broken one, with its line. A line's number passes its place by little more than the million data lines
+// at the most.
+fn tail(s: &[u8], start: usize, first: u64) -> Walk
+    requires { ⌜ (start ≤ length (now s)) × (first ≤ start + 2 ^ 20) ⌝ }
+    ensures { λ r. ⌜ TailRead (now (s .entry)) start first r ⌝ }
+{
+    let mut at = start;
+    let mut line = first;
+    while at < s.len() {
+        let l = line_at(s, at, false);
+        if l.number != 0 {
+            return Walk {
+                at,
+                line,
+                number: l.number,
+                column: l.column,
+            };
+        }
+        at = l.end + 1;
+        line += 1;
+    }
+    Walk {
+        at,
+        line,
+        number: 0,
+        column: 0,
+    }
+}
+
+// The data lines from `start` on, which is line `line`, and the lines after them.
+fn below_units(
+    s: &[u8],
+    start: usize,
+    line: u64,
+    kind: u8,
+    headers: usize,
+    names: usize,
+    c: Columns,
+) -> FileTable
+    requires { ⌜ (start ≤ length (now s)) × (line ≤ start + 2) × (0 < c .count) × (c .count ≤ 256) × (c .count ≤ length (c .kinds)) ⌝ }
+    ensures { λ r. ⌜ RowsRead (kindsIn c) (now (s .entry)) start line r × (r .number ≡ 0 → Told (now (s .entry)) kind headers names c r) ⌝ }
+{
+    let n = c.count;
+    let kinds = c.kinds;
+    let flags = c.flags;
+    let d = read_data(s, start, &kinds[..n]);
+    if d.number != 0 {
+        return refused(d.number, line + d.rows, d.column);
+    }
+    let w = tail(s, d.at, line + d.rows + 1);
+    if w.number != 0 {
+        return refused(w.number, w.line, w.column);
+    }
+    FileTable {
+        number: 0,
+        line: 0,
+        column: 0,
+        kind,
+        columns: n,
+        kinds,
+        flags,
+        rows: d.rows,
+        profiles: d.profiles,
+        missing: d.missing,
+        headers,
+        names,
+        data: start,
+    }
+}
+
+// The units line, which starts at `at` and is line `line`, and all that follows it.
+fn below_names(
+    s: &[u8],
+    at: usize,
+    line: u64,
+    kind: u8,
+    headers: usize,
+    names: usize,
+    c: Columns,
+) -> FileTable
+    requires { ⌜ (at ≤ length (now s)) × (line ≤ at + 2) × (0 < c .count) × (c .count ≤ 256) × (c .count ≤ length (c .kinds)) ⌝ }
+    ensures { λ r. ⌜ UnitsRead c (now (s .entry)) at line r × (r .number ≡ 0 → Told (now (s .entry)) kind headers names c r) ⌝ }
+{
+    if s.len() <= at {
+        return refused(14, line, 1);
+    }
+    let l = line_at(s, at, true);
+    if l.number != 0 {
+        return refused(l.number, line, l.column);
+    }
+    let e = l.end;
+    if cells_between(s, at, e) != c.count {
+        return refused(15, line, 1);
+    }
+    below_units(s, e + 1, line + 1, kind, headers, names, c)
+}
+
+// The names line, which starts at `at` and is line `line`, and all that follows it.
+fn below_headers(s: &[u8], at: usize, line: u64, kind: u8, headers: usize) -> FileTable
+    requires { ⌜ (at ≤ length (now s)) × (line ≤ at + 2) ⌝ }
+    ensures { λ r. ⌜ NamesRead (sortOf kind) (now (s .entry)) at line r × (r .number ≡ 0 → (r .kind ≡ kind) × (r .headers ≡ headers)) ⌝ }
+{
+    if s.len() <= at {
+        return refused(14, line, 1);
+    }
+    let l = line_at(s, at, true);
+    if l.number != 0 {
+        return refused(l.number, line, l.column);
+    }
+    let e = l.end;
+    let c = read_columns(s, at, e, kind == 1);
+    if c.number != 0 {
+        return refused(c.number, line, c.column);
+    }
+    below_names(s, e + 1, line + 1, kind, headers, at, c)
+}
+
+// The check of a whole file.
+pub fn table_of(s: &[u8]) -> FileTable
+    ensures { λ r. ⌜ FileRead (now (s .entry)) r ⌝ }
+{
+    let f = first_line(s);
+    if f.number != 0 {
+        return refused(f.number, 1, f.column);
+    }
+    let c = comments(s, f.at, 2);
+    if c.number != 0 {
+        return refused(c.number, c.line, c.column);
+    }
+    if f.kind == 1 {
+        return below_headers(s, c.at, c.line, 1, 0);
+    }
+    let h = read_headers(s, c.at, c.line);
+    if h.number != 0 {
+        return refused(h.number, h.line, h.column);
+    }
+    below_headers(s, h.at, h.line, 2, c.at)
+}
