@@ -36,19 +36,6 @@ word-is s q e w r h = sym (h ∙ ap (λ (x : List ℕ). equal x w) (first-word s
 pub mark-short : (x : List ℕ) → length x < 3 → false ≡ isMark x
 mark-short x h = sym (equal-lengths (take 3 x) (0xef ∷ 0xbb ∷ 0xbf ∷ []) (λ e. omega (arith, length-take 3 x)))
 
-pub mark-bytes : (x : List ℕ) → 3 ≤ length x → (eqb (getD x 0 0) 0xef && eqb (getD x 1 0) 0xbb) && eqb (getD x 2 0) 0xbf ≡ isMark x
-unfolding equal
-mark-bytes [] h = absurd (omega arith)
-mark-bytes (a ∷ []) h = absurd (omega arith)
-mark-bytes (a ∷ b ∷ []) h = absurd (omega arith)
-mark-bytes (a ∷ b ∷ c ∷ xs) h = go (eqb a 0xef) (eqb b 0xbb) (eqb c 0xbf)
-  where
-    go : (p q r : Bool) → (p && q) && r ≡ p && (q && (r && true))
-    go true true true = refl
-    go true true false = refl
-    go true false r = refl
-    go false q r = refl
-
 -- ---- line 1
 pub first-none : (s : List ℕ) → length s ≡ 0 → outcomeOf s ≡ refused 14 1 1
 unfolding outcomeOf run endRules lastPieceRules firstOf firstPiece laterPieces

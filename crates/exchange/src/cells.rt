@@ -17,6 +17,7 @@ use crate::grid::line_end;
 use crate::grid::line_start;
 use crate::table::table_of;
 use text::Span;
+use text::refusals;
 
 // The cell stands at start, with its spaces; its line goes from `at` to its line feed at `feed`. The flags of its column stand in the column `flag`, from 1, 0
 // where it has none; the names line starts at `names`.
@@ -59,7 +60,7 @@ pub fn find_cell(file: &[u8], row: u64, column: u64) -> Cell
         return missed(v.number, v.line, v.column);
     }
     if (row < 1) | (v.rows < row) | (column < 1) | ((v.columns as u64) < column) {
-        return missed(21, 0, 0);
+        return missed(refusals::NO_SUCH_PLACE, 0, 0);
     }
     let c = (column - 1) as usize;
     let kinds = v.kinds;

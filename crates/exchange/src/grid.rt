@@ -13,7 +13,7 @@ use text::Span;
 fn is_feed(b: u8) -> usize
     ensures { λ r. ⌜ (r ≡ cond (eqb b 10) 1 0) × (r ≤ 1) ⌝ }
 {
-    if b == 10 { 1 } else { 0 }
+    if b == b'\n' { 1 } else { 0 }
 }
 
 // How many of the 32 bytes from i on are line feeds.
@@ -67,7 +67,7 @@ pub fn line_start(s: &[u8], from: usize, lines: usize) -> usize
     let mut at = p.at;
     let mut left = p.left;
     while at < s.len() {
-        if s[at] == 10 {
+        if s[at] == b'\n' {
             if left == 1 {
                 return at + 1;
             }
@@ -84,7 +84,7 @@ pub fn line_end(s: &[u8], i: usize) -> usize
 {
     let mut p = i;
     while p < s.len() {
-        if s[p] == 10 {
+        if s[p] == b'\n' {
             return p;
         }
         p += 1;
@@ -98,8 +98,8 @@ pub fn cell_end(s: &[u8], i: usize, e: usize) -> usize
     ensures { λ r. ⌜ (r ≡ next 44 (now (s .entry)) i) × (i ≤ r) × (r ≤ e) ⌝ }
 {
     let mut p = i;
-    while s[p] != 44 {
-        if s[p] == 10 {
+    while s[p] != b',' {
+        if s[p] == b'\n' {
             return p;
         }
         p += 1;
@@ -114,8 +114,8 @@ pub fn cells_between(s: &[u8], i: usize, e: usize) -> usize
 {
     let mut n: usize = 1;
     let mut p = i;
-    while s[p] != 10 {
-        if s[p] == 44 {
+    while s[p] != b'\n' {
+        if s[p] == b',' {
             n += 1;
         }
         p += 1;
@@ -132,7 +132,7 @@ pub fn cell_span(s: &[u8], at: usize, e: usize, column: usize) -> Span
     let mut left = column;
     while 0 < left {
         let q = cell_end(s, i, e);
-        if s[q] == 10 {
+        if s[q] == b'\n' {
             return Span { start: 0, len: 0 };
         }
         i = q + 1;

@@ -1,4 +1,4 @@
-// A WHP-Exchange file: its lines, places, headers, columns and rows; the check, and the calls that read.
+// A WHP-Exchange file: the check, and the calls that read its cells, decimals, flags and profiles.
 ghost use mathlib.Core.Path.{_≡_};
 ghost use Rattle.text.specs.Spaces.{IsPart};
 ghost use Rattle.exchange.specs.Answers.{checkedOf, cellOf, refusalBy, askedOf, placeFor, readingFor, flaggedOf};
@@ -6,6 +6,8 @@ ghost use Rattle.exchange.specs.Located.{locatedOf};
 ghost use Rattle.exchange.specs.Records.{profileOf, stationedOf, stationPlace, stationRefusal, noPlace, stationAnswer};
 use text::Reading;
 use text::Span;
+use text::kinds;
+use text::refusals;
 
 mod cells;
 mod columns;
@@ -101,7 +103,7 @@ pub fn check(file: &[u8]) -> Checked
             missing: 0,
         };
     }
-    if v.kind == 1 {
+    if v.kind == top::BOTTLE {
         return Checked {
             number: 0,
             line: 0,
@@ -170,7 +172,7 @@ pub fn decimal(file: &[u8], row: u64, column: u64) -> Reading
             column: a.column,
         };
     }
-    text::read_decimal(file, a.start, a.feed, 44, a.kind)
+    text::read_decimal(file, a.start, a.feed, b',', a.kind)
 }
 
 // The flag of a flag column.
@@ -186,8 +188,8 @@ pub fn flag(file: &[u8], row: u64, column: u64) -> Flagged
             flag: 0,
         };
     }
-    if (a.kind == 4) | (a.kind == 5) {
-        let j = text::judge(file, a.start, a.feed, 44, a.kind);
+    if (a.kind == kinds::FLAG) | (a.kind == kinds::CTD_FLAG) {
+        let j = text::judge(file, a.start, a.feed, b',', a.kind);
         return Flagged {
             number: 0,
             line: 0,
@@ -196,7 +198,7 @@ pub fn flag(file: &[u8], row: u64, column: u64) -> Flagged
         };
     }
     Flagged {
-        number: 22,
+        number: refusals::COLUMN_OF_OTHER_KIND,
         line: 0,
         column: 0,
         flag: 0,
@@ -228,7 +230,7 @@ pub fn locate(file: &[u8], row: u64, column: u64) -> Located
             start: a.start,
             len: a.len,
         },
-        measured: a.kind == 0,
+        measured: a.kind == kinds::MEASURED,
         ctd: cells::is_ctd(file, a.names, (column - 1) as usize),
         flagged: 0 < a.flag,
         flag: cells::place_in(file, a.at, a.feed, a.flag as usize),
@@ -262,8 +264,8 @@ pub fn profile(file: &[u8], k: u64) -> ProfileRecord
         time: values::time_in(file, time),
         first: p.first,
         rows: p.rows,
-        castno: values::number_in(file, castno, 8),
-        date: values::number_in(file, date, 9),
+        castno: values::number_in(file, castno, kinds::CASTNO),
+        date: values::number_in(file, date, kinds::DATE),
     }
 }
 
@@ -288,7 +290,7 @@ pub fn station_place<'a>(file: &'a [u8], k: u64, name: &'a [u8]) -> CellPlace
     }
     let v = profiles::station_value(file, p, name);
     if !v.found {
-        return no_place(21, 0, 0);
+        return no_place(refusals::NO_SUCH_PLACE, 0, 0);
     }
     CellPlace {
         number: 0,

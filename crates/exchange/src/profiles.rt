@@ -13,9 +13,11 @@ use crate::rows::read_row;
 use crate::rows::same_keys;
 use crate::table::FileTable;
 use crate::table::table_of;
+use crate::top::BOTTLE;
 use crate::values::ValueAt;
 use crate::values::column_value;
 use crate::values::header_value;
+use text::refusals;
 
 // The rows of a profile: the first row, and how many there are; none where there is no such profile.
 pub struct Run {
@@ -72,7 +74,7 @@ fn run_in(s: &[u8], v: FileTable, k: u64) -> Run
     requires { ⌜ FileRead (now s) v × (v .number ≡ 0) ⌝ }
     ensures { λ r. ⌜ RunFound (now (s .entry)) v k r ⌝ }
 {
-    if v.kind == 1 {
+    if v.kind == BOTTLE {
         let n = v.columns;
         let kinds = v.kinds;
         return run_of(s, v.data, v.rows, &kinds[..n], k);
@@ -125,7 +127,7 @@ pub fn profile_at(s: &[u8], k: u64) -> ProfileAt
     }
     let r = run_in(s, v, k);
     if r.rows == 0 {
-        return no_profile(21, 0, 0);
+        return no_profile(refusals::NO_SUCH_PLACE, 0, 0);
     }
     ProfileAt {
         number: 0,
@@ -145,7 +147,7 @@ pub fn station_value<'a>(s: &'a [u8], p: ProfileAt, name: &'a [u8]) -> ValueAt
     requires { ⌜ ValuesStand (now s) p ⌝ }
     ensures { λ r. ⌜ StationRead (now (s .entry)) p (now (name .entry)) r ⌝ }
 {
-    if p.kind == 1 {
+    if p.kind == BOTTLE {
         column_value(s, p.names, p.at, name)
     } else {
         header_value(s, p.headers, p.names, name)

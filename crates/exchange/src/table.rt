@@ -1,4 +1,4 @@
-// The whole file checked: the run over its lines.
+// The whole file, line after line: its table, or the first broken rule.
 ghost use mathlib.Core.Path.{_≡_};
 ghost use Prim.Native.Nat.{_+_, _^_, _≤_, _<_};
 ghost use lib.ListN.{length};
@@ -10,9 +10,12 @@ use crate::grid::cells_between;
 use crate::headers::read_headers;
 use crate::lines::line_at;
 use crate::rows::read_data;
+use crate::top::BOTTLE;
+use crate::top::CTD;
 use crate::top::Walk;
 use crate::top::comments;
 use crate::top::first_line;
+use text::refusals;
 
 // What the check finds out about a file: the first broken rule, or its table. The data lines start at `data`, the names line at `names`, the headers, in a
 // CTD file, at `headers`.
@@ -136,7 +139,7 @@ fn below_names(
     ensures { λ r. ⌜ UnitsRead c (now (s .entry)) at line r × (r .number ≡ 0 → Told (now (s .entry)) kind headers names c r) ⌝ }
 {
     if s.len() <= at {
-        return refused(14, line, 1);
+        return refused(refusals::LINE_DUE, line, 1);
     }
     let l = line_at(s, at, true);
     if l.number != 0 {
@@ -144,7 +147,7 @@ fn below_names(
     }
     let e = l.end;
     if cells_between(s, at, e) != c.count {
-        return refused(15, line, 1);
+        return refused(refusals::WRONG_NUMBER_OF_CELLS, line, 1);
     }
     below_units(s, e + 1, line + 1, kind, headers, names, c)
 }
@@ -155,14 +158,14 @@ fn below_headers(s: &[u8], at: usize, line: u64, kind: u8, headers: usize) -> Fi
     ensures { λ r. ⌜ NamesRead (sortOf kind) (now (s .entry)) at line r × (r .number ≡ 0 → (r .kind ≡ kind) × (r .headers ≡ headers)) ⌝ }
 {
     if s.len() <= at {
-        return refused(14, line, 1);
+        return refused(refusals::LINE_DUE, line, 1);
     }
     let l = line_at(s, at, true);
     if l.number != 0 {
         return refused(l.number, line, l.column);
     }
     let e = l.end;
-    let c = read_columns(s, at, e, kind == 1);
+    let c = read_columns(s, at, e, kind == BOTTLE);
     if c.number != 0 {
         return refused(c.number, line, c.column);
     }
@@ -181,12 +184,12 @@ pub fn table_of(s: &[u8]) -> FileTable
     if c.number != 0 {
         return refused(c.number, c.line, c.column);
     }
-    if f.kind == 1 {
-        return below_headers(s, c.at, c.line, 1, 0);
+    if f.kind == BOTTLE {
+        return below_headers(s, c.at, c.line, BOTTLE, 0);
     }
     let h = read_headers(s, c.at, c.line);
     if h.number != 0 {
         return refused(h.number, h.line, h.column);
     }
-    below_headers(s, h.at, h.line, 2, c.at)
+    below_headers(s, h.at, h.line, CTD, c.at)
 }
