@@ -12,7 +12,7 @@ use Rattle.exchange.specs.Faults.{Fault, clean, breaks, firstOf, unless}
 use Rattle.exchange.specs.Headers.{Header, headerOf, headersSaid}
 use Rattle.exchange.specs.Columns.{Sort, bottle, ctd, kindsOf}
 use Rattle.exchange.specs.Rows.{isEndData}
-use Rattle.exchange.specs.Places.{Table, Place, first, comments, headers, names, units, rows, after, stopped, isComment, rulesAt, lastPieceRules, endRules, dueHeaders, afterTop, nextPlace, stopAt, step, Outcome, accepted, refused, last, run, outcomeOf}
+use Rattle.exchange.specs.Places.{Table, Place, first, comments, headers, names, units, rows, after, stopped, isComment, rulesAt, lastPieceRules, endRules, dueHeaders, afterTop, nextPlace, stopAt, step, accepted, refused, last, run, outcomeOf}
 use Rattle.exchange.specs.Inner.Faults.{lineFault, unendedFault, rowFault, boundFault}
 use Rattle.exchange.proofs.RuleLaws.{end-step, row-step, Going, faultOutcome, last-cut}
 use Rattle.exchange.proofs.RunLaws.{run-stopped}

@@ -5,16 +5,15 @@ use mathlib.Core.List.{List, [], _∷_, map}
 use native.Mathlib.Omega.{arith}
 use lib.ListN.{length, take, drop}
 use borrow.Author.Tests.{eq-eqb, ne-eqb}
-use Rattle.text.specs.Cells.{pieces, lineAt}
-use Rattle.exchange.specs.declared.FileKind.{FileKind}
-use Rattle.exchange.specs.declared.FileKind.the-variants.{Unknown, Bottle, Ctd}
+use Rattle.text.specs.Cells.{pieces}
+use Rattle.exchange.specs.declared.FileKind.the-variants.{Bottle, Ctd}
 use Rattle.exchange.specs.declared.Checked.{Checked}
 use Rattle.exchange.specs.declared.table.FileTable.{FileTable}
-use Rattle.exchange.specs.Columns.{Sort, bottle, ctd, kindsOf, namesOf}
-use Rattle.exchange.specs.Places.{Table, Outcome, accepted, refused, outcomeOf}
-use Rattle.exchange.specs.Profiles.{grid, missingInRows, keyOf, runCount, Key}
-use Rattle.exchange.specs.Answers.{rowsIn, missingOf, profilesOf, profilesBy, kindBy, checkedBy, checkedOf}
-use Rattle.exchange.specs.Inner.Walks.{linesFrom, rowsFrom, sortOf, StartsAt, TableRead}
+use Rattle.exchange.specs.Columns.{Sort, bottle, ctd, kindsOf}
+use Rattle.exchange.specs.Places.{Table, accepted, refused, outcomeOf}
+use Rattle.exchange.specs.Profiles.{missingInRows, keyOf, runCount}
+use Rattle.exchange.specs.Answers.{rowsIn, missingOf, profilesBy, kindBy, checkedBy, checkedOf}
+use Rattle.exchange.specs.Inner.Walks.{rowsFrom, sortOf, TableRead}
 use Rattle.exchange.specs.Inner.Table.{FileRead}
 
 map-drop : (n : ℕ) (ls : List (List ℕ)) → map (pieces 44) (drop n ls) ≡ drop n (map (pieces 44) ls)

@@ -30,7 +30,7 @@ use Rattle.exchange.specs.Inner.Walks.{textIn, namesAt, asFault, sortFor
 use Rattle.exchange.specs.Inner.Names.{faultIn}
 use Rattle.exchange.specs.Inner.Columns.{startOf, Placed, CellsFound, KindsRead, parameterPlace}
 use Rattle.exchange.proofs.NameLaws.{names-length, name-given, Within, fault-within, place-test, place-member, place-within, place-name, clean-fresh, clean-unique}
-use Rattle.exchange.proofs.NamesLineLaws.{start-next}
+use Rattle.exchange.proofs.NamesLineLaws.{start-first, start-later, start-next}
 use Rattle.exchange.proofs.RuleLaws.{names-rules}
 
 -- ---- the place of a parameter
@@ -131,11 +131,16 @@ pub record Kinded (ts : List (List ℕ)) (k : ℕ) (of at : List ℕ) : Type 0 w
   pub left : flagFault 1 (map trim ts) ts ≡ flagFault (startOf 1 ts k) (map trim ts) (drop k ts)
 
 pub kinded-none : (ts : List (List ℕ)) (of at : List ℕ) → length of ≡ 256 → length at ≡ 256 → ((j : ℕ) → getD at j 0 ≡ 0) → Kinded ts 0 of at
-unfolding flagFrom startOf
-kinded-none [] of at a b f =
-    record { inside = omega arith; wide = a; broad = b; done = refl; marks = λ j h. f j; left = refl }
-kinded-none (t ∷ ts) of at a b f =
-    record { inside = omega arith; wide = a; broad = b; done = refl; marks = λ j h. f j; left = refl }
+unfolding flagFrom
+kinded-none ts of at a b f =
+    record {
+      inside = omega arith;
+      wide = a;
+      broad = b;
+      done = refl;
+      marks = λ j h. f j;
+      left = ap (λ (c : ℕ). flagFault c (map trim ts) ts) (sym (start-first 1 ts));
+    }
 
 pub zeros-get : (n j : ℕ) → _≡_ {A = ℕ} (getD (replicate n 0) j 0) 0
 zeros-get zero j = refl
@@ -412,10 +417,10 @@ over-none c zero (t ∷ ts) h = absurd (not-suc-le-zero h)
 over-none c (suc m) (t ∷ ts) h = over-none (c + length t + 1) m ts (le-of-suc-le-suc h)
 
 over-one : (c m : ℕ) (ts : List (List ℕ)) → m < length ts → overFault c m ts ≡ breaks 11 (startOf c ts m)
-unfolding startOf overFault
+unfolding overFault
 over-one c m [] h = absurd (not-suc-le-zero h)
-over-one c zero (t ∷ ts) h = refl
-over-one c (suc m) (t ∷ ts) h = over-one (c + length t + 1) m ts (le-of-suc-le-suc h)
+over-one c zero (t ∷ ts) h = ap (breaks 11) (sym (start-first c (t ∷ ts)))
+over-one c (suc m) (t ∷ ts) h = over-one (c + length t + 1) m ts (le-of-suc-le-suc h) ∙ ap (breaks 11) (sym (start-later c t ts m))
 
 abbrev foundFaultOf : (ℕ → ℕ) → Fault → NameFault → Fault
 foundFaultOf col f Clean = f
@@ -424,7 +429,7 @@ foundFaultOf col f (Repeated k) = breaks 9 (col k)
 
 names-faults : (col : ℕ → ℕ) (c : ℕ) (earlier ts : List (List ℕ)) (m b : ℕ) → length earlier ≡ b → b + m ≡ 256 → ((j : ℕ) → col (b + j) ≡ startOf c ts j)
     → nameFault c earlier ts ≡ foundFaultOf col (overFault c m ts) (faultIn earlier (take m (map trim ts)) b)
-unfolding nameFault nameRules firstOf faultIn startOf overFault
+unfolding nameFault nameRules firstOf faultIn overFault
 names-faults col c earlier [] zero b l g f = refl
 names-faults col c earlier [] (suc m) b l g f = refl
 names-faults col c earlier (t ∷ ts) zero b l g f = rw (le-ltb (length earlier) 256 (omega arith))
@@ -434,10 +439,10 @@ names-faults col c earlier (t ∷ ts) (suc m) b l g f =
     (names-faults col (c + length t + 1) (earlier ++ trim t ∷ []) ts m (suc b) (length-append earlier (trim t ∷ []) ∙ omega arith) (omega arith) (λ j. later j)))
   where
     here : col b ≡ c
-    here = let q : b ≡ b + 0 = omega arith in ap col q ∙ f 0
+    here = let q : b ≡ b + 0 = omega arith in ap col q ∙ f 0 ∙ start-first c (t ∷ ts)
 
     later : (j : ℕ) → col (suc b + j) ≡ startOf (c + length t + 1) ts j
-    later j = let q : suc b + j ≡ b + suc j = omega arith in ap col q ∙ f (suc j)
+    later j = let q : suc b + j ≡ b + suc j = omega arith in ap col q ∙ f (suc j) ∙ start-later c t ts j
 
     go : (p q : Bool)
         → nameFault (c + length t + 1) (earlier ++ trim t ∷ []) ts

@@ -22,7 +22,7 @@ use Rattle.exchange.specs.Places.{Table, Place, rows, after, stopped, la
 use Rattle.exchange.specs.Inner.Faults.{lineFault, rowFault, boundFault}
 use Rattle.exchange.specs.Profiles.{missingInRow, missingInRows, Key, keyOf, sameKey, bordersFrom, runCount}
 use Rattle.exchange.specs.Inner.Walks.{linesFrom, lineOf, asFault, textIn, rowsFrom, DataRead}
-use Rattle.exchange.specs.Inner.Rows.{spanText, keyAt, cellsOf, RowRead, dataRefused, border, withRow, DataHeld, RowAdded, DataEnded, LineRead}
+use Rattle.exchange.specs.Inner.Rows.{spanText, keyAt, lineCells, RowRead, dataRefused, border, withRow, DataHeld, RowAdded, DataEnded, LineRead}
 use Rattle.exchange.proofs.RowLaws.{none-within, fault-number}
 use Rattle.exchange.proofs.RuleLaws.{end-step, row-step}
 use Rattle.exchange.proofs.RunLaws.{run-stopped, run-line, lines-end, lines-more, line-clean, line-broken, piece-take}
@@ -258,7 +258,7 @@ so-far-none s ks i h = record {
 
 module _ (s ks : List ℕ) (i : ℕ) (d : Data) (x : SoFar s ks i d) where
   module _ (r : Data) (a : RowAdded s ks d r) where
-    rows-more : (n : ℕ) → rowsFrom s (d .at) (suc n) ≡ cellsOf s (d .at) ∷ rowsFrom s (r .at) n
+    rows-more : (n : ℕ) → rowsFrom s (d .at) (suc n) ≡ lineCells s (d .at) ∷ rowsFrom s (r .at) n
     rows-more n = ap (λ (ps : List (List ℕ)). take (suc n) (map (pieces 44) ps)) (a .lines)
 
     count-more : (n : ℕ) → r .rows + n ≡ d .rows + suc n
@@ -267,15 +267,15 @@ module _ (s ks : List ℕ) (i : ℕ) (d : Data) (x : SoFar s ks i d) where
     missing-more : (n : ℕ) → missingInRows ks (rowsFrom s i (r .rows + n)) ≡ r .missing + missingInRows ks (rowsFrom s (r .at) n)
     unfolding missingInRows
     missing-more n =
-        let e : missingInRows ks (rowsFrom s (d .at) (suc n)) ≡ missingInRow ks (cellsOf s (d .at)) + missingInRows ks (rowsFrom s (r .at) n) = ap (missingInRows ks) (rows-more n) in
+        let e : missingInRows ks (rowsFrom s (d .at) (suc n)) ≡ missingInRow ks (lineCells s (d .at)) + missingInRows ks (rowsFrom s (r .at) n) = ap (missingInRows ks) (rows-more n) in
         ap (λ (m : ℕ). missingInRows ks (rowsFrom s i m)) (count-more n) ∙ x .missing (suc n) ∙ omega (arith, e, a .missing)
 
-    borders-more : (ys : List Key) → bordersAfter (r .rows) (keyAt s (r .last)) ys ≡ bordersFrom (keyOf ks (cellsOf s (d .at))) ys
+    borders-more : (ys : List Key) → bordersAfter (r .rows) (keyAt s (r .last)) ys ≡ bordersFrom (keyOf ks (lineCells s (d .at))) ys
     borders-more ys = rw (lt-ltb 0 (r .rows) (omega (arith, a .counted))) (ap (λ (k : Key). bordersFrom k ys) (a .last))
 
     profiles-more : (n : ℕ) → runCount (map (keyOf ks) (rowsFrom s i (r .rows + n))) ≡ r .profiles + bordersAfter (r .rows) (keyAt s (r .last)) (map (keyOf ks) (rowsFrom s (r .at) n))
     profiles-more n =
-        let y = keyOf ks (cellsOf s (d .at)) in
+        let y = keyOf ks (lineCells s (d .at)) in
         let ys = map (keyOf ks) (rowsFrom s (r .at) n) in
         let e : bordersAfter (d .rows) (keyAt s (d .last)) (map (keyOf ks) (rowsFrom s (d .at) (suc n))) ≡ border s d y + bordersFrom y ys
         = ap (λ (rs : List (List (List ℕ))). bordersAfter (d .rows) (keyAt s (d .last)) (map (keyOf ks) rs)) (rows-more n) ∙ borders-row (d .rows) (keyAt s (d .last)) y ys in

@@ -14,7 +14,7 @@ use Rattle.text.specs.Cells.{firstPiece, laterPieces, pieces, lineAt, cellAt, n
 use Rattle.text.specs.declared.Span.{Span}
 use Rattle.text.proofs.CellLaws.{stop-moved, stop-short, next-within, next-from, next-parts, pieces-last, pieces-more}
 use Rattle.text.specs.Scans.{Stop}
-use Rattle.exchange.specs.Faults.{clean, breaks, _then_, unless, firstOf}
+use Rattle.exchange.specs.Faults.{clean, _then_, unless, firstOf}
 use Rattle.exchange.specs.Columns.{kindOfName, kindsOf}
 use Rattle.exchange.specs.Rows.{rowRules}
 use Rattle.exchange.specs.Places.{Table, accepted, outcomeOf}

@@ -2,20 +2,22 @@
 use Prim.Native.Nat.{ℕ, zero, suc, _+_, _-_, _≤_, _<_}
 use mathlib.Core.Path.{_≡_, refl, sym, ap, subst, _∙_}
 use mathlib.Core.List.{List, [], _∷_, map}
-use mathlib.Core.Bool.{Bool, true, false, cond, _||_}
+use mathlib.Core.Bool.{Bool, true, false, cond}
 use native.Mathlib.Nat.{add-zero, zero-add, not-suc-le-zero, le-of-suc-le-suc}
 use native.Mathlib.Numerals.{add-one}
 use native.Mathlib.Omega.{arith}
 use lib.ListN.{length, getD, take, drop, drop-of-length-le, length-drop}
-use lib.Seq.{drop-cons, drop-drop, getD-drop}
+use lib.Seq.{slice, take-take, drop-cons, drop-drop, getD-drop}
 use lib.Dec.{eqb, ltb}
-use borrow.Author.Tests.{eqb-true, eq-eqb, ne-eqb, lt-ltb, le-ltb, ltb-true, ltb-false}
+use borrow.Author.Tests.{eq-eqb, ne-eqb, lt-ltb, le-ltb, ltb-true, ltb-false}
 use Rattle.text.specs.declared.Span.{Span}
 use Rattle.text.specs.Cells.{firstPiece, laterPieces, pieces, lineAt, cellAt, next}
 use Rattle.text.specs.Scans.{Stop}
 use Rattle.text.proofs.CellLaws.{next-parts, pieces-last, pieces-more}
+use Rattle.text.proofs.SpaceLaws.{slice-take}
 use Rattle.exchange.specs.Grid.{starts, lineStart, spanIn, cellSpan}
 use Rattle.exchange.specs.Inner.Grid.{feedsIn, skip, skipped}
+use Rattle.exchange.proofs.RunLaws.{piece-in, piece-take}
 
 -- ---- skipping line feeds
 suc-cond : (z : Bool) (a b c d : ℕ) → suc a ≡ c → suc b ≡ d → suc (cond z a b) ≡ cond z c d
@@ -180,3 +182,14 @@ module _ {s : List ℕ} {i e : ℕ} (t : Stop 44 s i e) where
   span-more k h =
       ap (λ (n : ℕ). cellSpan s i n) (add-one k) ∙ ap (λ (ts : List (List ℕ)). spanIn i ts (suc k)) (pieces-more t (λ z. absurd (omega arith)) (next-parts t h))
       ∙ span-on i (cellAt 44 s i) (pieces 44 (lineAt s (next 44 s i + 1))) k
+
+-- ---- a cell as a part of the file
+pub cell-slice : (c : ℕ) (s : List ℕ) (i : ℕ) → slice i (next c s i) s ≡ cellAt c s i
+unfolding next
+cell-slice c s i =
+    let q : (i + length (cellAt c s i)) - i ≡ length (cellAt c s i) = omega arith in
+    slice-take i (i + length (cellAt c s i)) s
+    ∙ ap (λ (k : ℕ). take k (drop i s)) q
+    ∙ sym (take-take (length (cellAt c s i)) (length (lineAt s i)) (drop i s) (piece-in c (lineAt s i)))
+    ∙ ap (take (length (cellAt c s i))) (piece-take 10 (drop i s))
+    ∙ piece-take c (lineAt s i)

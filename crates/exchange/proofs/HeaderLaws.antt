@@ -2,13 +2,13 @@
 use Prim.Native.Nat.{ℕ, zero, suc, _+_, _-_, _≤_, _<_}
 use mathlib.Core.Path.{_≡_, refl, sym, ap, _∙_}
 use mathlib.Core.List.{List, [], _∷_, _++_}
-use mathlib.Core.Bool.{Bool, true, false, cond, not, _||_}
+use mathlib.Core.Bool.{Bool, true, false, cond, not}
 use native.Mathlib.Numerals.{add-one}
 use native.Mathlib.Omega.{arith}
 use lib.ListN.{length, getD, take, drop, set}
 use lib.Seq.{slice, take-take, drop-drop}
 use lib.Dec.{eqb, ltb, leb}
-use borrow.Author.Tests.{eq-eqb, ne-eqb, lt-ltb, le-ltb, le-leb, lt-leb, ltb-true, ltb-false, leb-true}
+use borrow.Author.Tests.{eq-eqb, ne-eqb, lt-ltb, le-ltb, le-leb, lt-leb, leb-true}
 use Rattle.text.specs.declared.Judged.{Judged}
 use Rattle.text.specs.Bytes.{bytes, equal}
 use Rattle.text.specs.Cells.{firstPiece, lineAt, cellAt, next}
@@ -28,6 +28,7 @@ use Rattle.exchange.specs.Headers.{Header as FileHeader, headerOf, rawNa
 use Rattle.exchange.specs.Inner.Faults.{lineFault, headerFault}
 use Rattle.exchange.specs.Inner.Walks.{lineFaultAt, lineFor, lineOf, asFault, textIn, namesAt, headersAt}
 use Rattle.exchange.specs.Inner.Headers.{Parted, namedFaultAt, headerFaultAt, HeaderRead}
+use Rattle.exchange.proofs.NameLaws.{place-member}
 use Rattle.exchange.proofs.RuleLaws.{then-none}
 use Rattle.exchange.proofs.RunLaws.{piece-in, piece-take, line-feed, line-clean}
 
@@ -263,26 +264,6 @@ module _ {s : List ℕ} {i q e : ℕ} (t : Parted s i q e) (n : List ℕ) (en : 
       said-good l = ap (λ (c : Bool). cond c (v .size) 0) (sym (le-leb (v .size) 64 l)) ∙ said-size
 
 -- ---- names by place
-pub names-length : (s : List ℕ) (n : ℕ) (bs es : List ℕ) → n ≤ length bs → n ≤ length es → length (namesAt s n bs es) ≡ n
-unfolding namesAt
-names-length s zero bs es h k = refl
-names-length s (suc n) [] es h k = absurd (omega arith)
-names-length s (suc n) (b ∷ bs) [] h k = absurd (omega arith)
-names-length s (suc n) (b ∷ bs) (e ∷ es) h k = ap suc (names-length s n bs es (omega arith) (omega arith))
-
-pub member-placed : (n : List ℕ) (xs : List (List ℕ)) → member n xs ≡ ltb (placeIn n xs) (length xs)
-unfolding member placeIn
-member-placed n [] = sym (le-ltb 0 0 (omega arith))
-member-placed n (x ∷ xs) = go (equal x n) (member-placed n xs)
-  where
-    go : (b : Bool) → member n xs ≡ ltb (placeIn n xs) (length xs) → (b || member n xs) ≡ ltb (cond b 0 (suc (placeIn n xs))) (suc (length xs))
-    go true h = sym (lt-ltb 0 (suc (length xs)) (omega arith))
-    go false h = h ∙ sym (below (ltb (placeIn n xs) (length xs)) refl)
-      where
-        below : (b : Bool) → ltb (placeIn n xs) (length xs) ≡ b → ltb (suc (placeIn n xs)) (suc (length xs)) ≡ b
-        below true e = lt-ltb (suc (placeIn n xs)) (suc (length xs)) (omega (arith, ltb-true (placeIn n xs) (length xs) e))
-        below false e = le-ltb (suc (placeIn n xs)) (suc (length xs)) (omega (arith, ltb-false (placeIn n xs) (length xs) e))
-
 pub headers-names : (s : List ℕ) (n : ℕ) (bs es : List ℕ) → namesIn (headersAt s n bs es) ≡ namesAt s n bs es
 unfolding headersAt namesAt
 headers-names s zero bs es = refl
@@ -343,7 +324,7 @@ module _ (s : List ℕ) (i : ℕ) (earlier : List (List ℕ)) where
       name-is = et ∙ part-name (r .parted z)
 
       member-is : member (nameOf (lineAt s i)) earlier ≡ ltb p n
-      member-is = ap (λ (x : List ℕ). member x earlier) (sym name-is) ∙ member-placed t earlier ∙ rw (en, ep)
+      member-is = ap (λ (x : List ℕ). member x earlier) (sym name-is) ∙ sym (place-member t earlier) ∙ rw (en, ep)
 
       pub header-known : (g : Header) → (g .number ≡ 9) × (g .column ≡ 1) → p < n → HeaderRead (headerFaultAt earlier s i) s i g
       header-known g e l = read-refused (headerFaultAt earlier s i) s i g 9 1 e (λ y. omega arith) (sym (rules-left ∙ rw (member-is, lt-ltb p n l)))

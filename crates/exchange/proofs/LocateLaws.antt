@@ -20,7 +20,8 @@ use Rattle.exchange.specs.Grid.{spanIn, cellSpan}
 use Rattle.exchange.specs.Inner.Walks.{textIn}
 use Rattle.exchange.specs.Located.{nowhere, locatedBy, locatedOf}
 use Rattle.exchange.specs.Inner.Cells.{CellRead, AskedRead}
-use Rattle.exchange.proofs.NamesLineLaws.{ends-stop, cell-slice}
+use Rattle.exchange.proofs.NamesLineLaws.{ends-stop}
+use Rattle.exchange.proofs.GridWalkLaws.{cell-slice}
 use Rattle.exchange.proofs.GridLaws.{SpanAt, span-at}
 
 -- ---- a column counted from 1, 0 being none

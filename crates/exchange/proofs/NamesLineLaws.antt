@@ -3,24 +3,25 @@ use Prim.Native.Nat.{ℕ, zero, suc, _+_, _-_, _≤_, _<_}
 use mathlib.Core.Path.{_≡_, refl, sym, ap, _∙_, subst}
 use mathlib.Core.Logic.{⊎-elim}
 use mathlib.Core.List.{List, [], _∷_, _++_}
-use mathlib.Core.Bool.{Bool, true, false, cond}
 use native.Mathlib.Numerals.{add-one}
 use native.Mathlib.Nat.{not-suc-le-zero, le-of-suc-le-suc, eq-or-lt-of-le}
 use native.Mathlib.Omega.{arith}
-use lib.ListN.{length, getD, take, drop, set, length-take, length-drop, length-set, length-map, List·getD-map}
-use lib.Seq.{slice, take-suc, take-take, drop-drop, getD-drop, getD-set-same, getD-set-other}
-use lib.Dec.{eqb}
+use lib.ListN.{length, getD, take, drop, set, length-drop, length-set, length-map, List·getD-map}
+use lib.Seq.{slice, take-suc, drop-drop, getD-drop, getD-set-same, getD-set-other}
 use borrow.Author.Tests.{ne-eqb}
 use borrow.Author.Count.{below-more}
-use Rattle.text.specs.Cells.{firstPiece, laterPieces, pieces, lineAt, cellAt, next}
+use Rattle.text.specs.Cells.{laterPieces, pieces, lineAt, cellAt, next}
 use Rattle.text.specs.Spaces.{lead, back, trim}
 use Rattle.text.specs.Scans.{Stop}
 use Rattle.text.proofs.CellLaws.{line-in, line-end, next-from, next-within, next-parts, pieces-last, pieces-more}
-use Rattle.text.proofs.SpaceLaws.{slice-take, span-bytes}
+use Rattle.text.proofs.SpaceLaws.{span-bytes}
 use Rattle.exchange.specs.Columns.{namesOf}
 use Rattle.exchange.specs.Inner.Walks.{textIn, namesAt}
+use Rattle.exchange.specs.Grid.{starts}
+use Rattle.exchange.specs.Inner.Rows.{lineCells}
 use Rattle.exchange.specs.Inner.Columns.{startOf, Ends, Placed}
 use Rattle.exchange.proofs.RunLaws.{line-feed}
+use Rattle.exchange.proofs.GridWalkLaws.{cell-slice}
 use Rattle.exchange.proofs.NameLaws.{names-set}
 
 -- ---- the line feed at e
@@ -63,73 +64,46 @@ module _ {A : Type 0} (l : List A) (n : ℕ) (x : A) (r : List A) (e : drop n l 
   rest-later = sym (drop-drop 1 n l) ∙ ap (drop 1) e
 
 -- ---- where a piece starts
+pub start-first : (c : ℕ) (ts : List (List ℕ)) → startOf c ts 0 ≡ c
+unfolding startOf starts
+start-first c [] = omega arith
+start-first c (t ∷ ts) = omega arith
+
+pub start-later : (c : ℕ) (t : List ℕ) (ts : List (List ℕ)) (k : ℕ) → startOf c (t ∷ ts) (suc k) ≡ startOf (c + length t + 1) ts k
+unfolding startOf starts
+start-later c t ts k = omega arith
+
 pub start-next : (c : ℕ) (ts : List (List ℕ)) (k : ℕ) → k < length ts → startOf c ts (k + 1) ≡ startOf c ts k + length (getD ts k []) + 1
-unfolding startOf
 start-next c ts k h = rw (add-one k) (go c ts k h)
   where
     go : (c : ℕ) (ts : List (List ℕ)) (k : ℕ) → k < length ts → startOf c ts (suc k) ≡ startOf c ts k + length (getD ts k []) + 1
     go c [] k h = absurd (not-suc-le-zero h)
-    go c (t ∷ []) zero h = refl
-    go c (t ∷ (u ∷ us)) zero h = refl
-    go c (t ∷ ts) (suc k) h = go (c + length t + 1) ts k (le-of-suc-le-suc h)
-
-pub start-shift : (a c : ℕ) (ts : List (List ℕ)) (k : ℕ) → startOf (a + c) ts k ≡ a + startOf c ts k
-unfolding startOf
-start-shift a c [] k = refl
-start-shift a c (t ∷ ts) zero = refl
-start-shift a c (t ∷ ts) (suc k) =
-    let q : a + c + length t + 1 ≡ a + (c + length t + 1) = omega arith in
-    rw q (start-shift a (c + length t + 1) ts k)
+    go c (t ∷ ts) zero h = start-later c t ts 0 ∙ start-first (c + length t + 1) ts ∙ ap (λ (n : ℕ). n + length t + 1) (sym (start-first c (t ∷ ts)))
+    go c (t ∷ ts) (suc k) h =
+        start-later c t ts (suc k) ∙ go (c + length t + 1) ts k (le-of-suc-le-suc h) ∙ ap (λ (n : ℕ). n + length (getD ts k []) + 1) (sym (start-later c t ts k))
 
 -- from a place of the file to a column
 module _ (at v : ℕ) (ts : List (List ℕ)) (k : ℕ) (e : v ≡ startOf at ts k) where
-  start-over : v ≡ at + startOf 0 ts k
-  start-over = let q : at ≡ at + 0 = omega arith in e ∙ ap (λ (c : ℕ). startOf c ts k) q ∙ start-shift at 0 ts k
-
   pub start-after : at ≤ v
-  start-after = omega (arith, start-over)
+  unfolding startOf
+  start-after = omega (arith, e)
 
   pub start-column : (v - at) + 1 ≡ startOf 1 ts k
-  start-column = omega (arith, start-over, start-shift 1 0 ts k)
-
--- ---- a cell as a part of the file
-piece-take : (c : ℕ) (xs : List ℕ) → firstPiece c xs ≡ take (length (firstPiece c xs)) xs
-unfolding firstPiece
-piece-take c [] = refl
-piece-take c (x ∷ xs) = go (eqb x c) (piece-take c xs)
-  where
-    go : (b : Bool) → firstPiece c xs ≡ take (length (firstPiece c xs)) xs → cond b [] (x ∷ firstPiece c xs) ≡ take (length (cond b [] (x ∷ firstPiece c xs))) (x ∷ xs)
-    go true h = refl
-    go false h = ap (_∷_ x) h
-
-piece-short : (c : ℕ) (xs : List ℕ) → length (firstPiece c xs) ≤ length xs
-piece-short c xs = omega (arith, simp length-take at (ap length (piece-take c xs)))
-
-pub cell-slice : (c : ℕ) (s : List ℕ) (i : ℕ) → slice i (next c s i) s ≡ cellAt c s i
-unfolding next
-cell-slice c s i =
-    let q : (i + length (cellAt c s i)) - i ≡ length (cellAt c s i) = omega arith in
-    slice-take i (i + length (cellAt c s i)) s
-    ∙ ap (λ (k : ℕ). take k (drop i s)) q
-    ∙ sym (piece-take c (lineAt s i)
-    ∙ ap (take (length (cellAt c s i))) (piece-take 10 (drop i s))
-    ∙ take-take (length (cellAt c s i)) (length (lineAt s i)) (drop i s) (piece-short c (lineAt s i)))
+  unfolding startOf
+  start-column = omega (arith, e)
 
 -- ---- one more cell
-abbrev pub cellsOf : List ℕ → ℕ → List (List ℕ)
-cellsOf s at = pieces 44 (lineAt s at)
-
 -- the walk over the cells: n of them are placed, and the next starts at i
-pub record Walked (s : List ℕ) (at e i n : ℕ) (starts ends : List ℕ) : Type 0 where
+pub record Walked (s : List ℕ) (at e i n : ℕ) (begins ends : List ℕ) : Type 0 where
   pub ends-at : Ends s i e
-  pub placed : Placed s at n starts ends
-  pub left : drop n (cellsOf s at) ≡ pieces 44 (lineAt s i)
-  pub here : i ≡ startOf at (cellsOf s at) n
+  pub placed : Placed s at n begins ends
+  pub left : drop n (lineCells s at) ≡ pieces 44 (lineAt s i)
+  pub here : i ≡ startOf at (lineCells s at) n
   pub later : n ≤ i
 
-pub walked-none : (s : List ℕ) (at e : ℕ) (starts ends : List ℕ) → Ends s at e → length starts ≡ 256 → length ends ≡ 256 → Walked s at e at 0 starts ends
-unfolding namesAt startOf
-walked-none s at e starts ends t a b =
+pub walked-none : (s : List ℕ) (at e : ℕ) (begins ends : List ℕ) → Ends s at e → length begins ≡ 256 → length ends ≡ 256 → Walked s at e at 0 begins ends
+unfolding namesAt
+walked-none s at e begins ends t a b =
     record {
       ends-at = t;
       placed = record {
@@ -141,11 +115,11 @@ walked-none s at e starts ends t a b =
         inside = λ k h. absurd (not-suc-le-zero h);
       };
       left = refl;
-      here = refl;
+      here = sym (start-first at (lineCells s at));
       later = omega arith;
     }
 
-module _ (s : List ℕ) (at e i n : ℕ) (starts ends : List ℕ) (w : Walked s at e i n starts ends) where
+module _ (s : List ℕ) (at e i n : ℕ) (begins ends : List ℕ) (w : Walked s at e i n begins ends) where
   abbrev ts : List (List ℕ)
   ts = pieces 44 (lineAt s at)
 
@@ -172,22 +146,22 @@ module _ (s : List ℕ) (at e i n : ℕ) (starts ends : List ℕ) (w : Walked s 
         (λ k m. subst (P k) (sym (getD-set-other l n k v 0 (λ z. omega arith))) (f k m))
         (subst (P n) (sym (getD-set-same l n v 0 g)) x)
 
-    pub placed-more : Placed s at (n + 1) (set starts n i) (set ends n q)
+    pub placed-more : Placed s at (n + 1) (set begins n i) (set ends n q)
     placed-more =
         let p = w .placed in
-        let g : n < length starts = rw (p .wide) h in
+        let g : n < length begins = rw (p .wide) h in
         let k : n < length ends = rw (p .broad) h in
         let z : n < length (namesOf (lineAt s at)) = rw length-map walked-more in
         record {
           few = omega arith;
-          wide = length-set starts n i ∙ p .wide;
+          wide = length-set begins n i ∙ p .wide;
           broad = length-set ends n q ∙ p .broad;
-          names = names-set s n starts ends i q g k
+          names = names-set s n begins ends i q g k
               ∙ ap (λ (x : List (List ℕ)). x ++ textIn s i q ∷ []) (p .names)
               ∙ ap (λ (x : List ℕ). take n (namesOf (lineAt s at)) ++ x ∷ []) name-here
               ∙ sym (ap (λ (m : ℕ). take m (namesOf (lineAt s at))) (add-one n) ∙ take-suc (namesOf (lineAt s at)) n [] z);
-          begin = set-below starts i (λ (k v : ℕ). v ≡ startOf at ts k) g (p .begin) (w .here);
-          inside = set-below starts i (λ (k v : ℕ). v < length s) g (p .inside) (omega (arith, w .ends-at .room, w .ends-at .far));
+          begin = set-below begins i (λ (k v : ℕ). v ≡ startOf at ts k) g (p .begin) (w .here);
+          inside = set-below begins i (λ (k v : ℕ). v < length s) g (p .inside) (omega (arith, w .ends-at .room, w .ends-at .far));
         }
 
     -- the cell is the last
@@ -196,7 +170,7 @@ module _ (s : List ℕ) (at e i n : ℕ) (starts ends : List ℕ) (w : Walked s 
         let l = pieces-last (ends-stop (w .ends-at)) (ap (λ (p : ℕ). getD s p 0) (sym eq ∙ f) ∙ ends-stop (w .ends-at) .feed) in
         omega (arith, rest-long ts n (cellAt 44 s i) [] (w .left ∙ l))
 
-    pub walked-on : (q ≡ e → ⊥) → Walked s at e (q + 1) (n + 1) (set starts n i) (set ends n q)
+    pub walked-on : (q ≡ e → ⊥) → Walked s at e (q + 1) (n + 1) (set begins n i) (set ends n q)
     unfolding next
     walked-on f =
         let m : q < e = ⊎-elim (λ (z : q ≡ e). absurd (f z)) (λ (z : q < e). z) (eq-or-lt-of-le cell-within) in

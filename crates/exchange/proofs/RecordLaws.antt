@@ -28,7 +28,7 @@ use Rattle.exchange.specs.Profiles.{Key, keyOf, labels, rowsOf}
 use Rattle.exchange.specs.Answers.{rowsIn, rowCells}
 use Rattle.exchange.specs.Records.{Value, given, absent, columnValue, valueBy, stationValue, labelsBy, profileRows, numberIn, castTime, noProfile, recordOf, profileBy, profileOf, Stationed, stands, refusedBy, stationedAt, stationedIn, stationedBy, stationedOf, stationPlace, stationRefusal, noPlace, stationAnswer}
 use Rattle.exchange.specs.Inner.Walks.{linesFrom, rowsFrom, sortOf, sortFor, TableRead}
-use Rattle.exchange.specs.Inner.Rows.{cellsOf}
+use Rattle.exchange.specs.Inner.Rows.{lineCells}
 use Rattle.exchange.specs.Inner.Table.{FileRead}
 use Rattle.exchange.specs.Inner.Profiles.{RowLines, RunOf, RunRead}
 use Rattle.exchange.specs.Inner.Values.{ValueRead, HeadersStand, HeaderFound, valueIn, RunFound, ValuesIn, ProfileFound, ProfileRead}
@@ -225,7 +225,7 @@ module _ (s : List ℕ) (t : Table) (p : ProfileAt) (w : ValuesIn s t p) where
         let i = starts (map length (pieces 10 s)) (t .line + (p .first - 1)) in
         let k = placeIn name (t .names) in
         let e : k ≡ k + 1 - 1 = omega arith in
-        ap (λ (ns : List (List ℕ)). value-at ns (cellsOf s (p .at)) (p .at)) (sym (w .named))
+        ap (λ (ns : List (List ℕ)). value-at ns (lineCells s (p .at)) (p .at)) (sym (w .named))
         ∙ ap (λ (ts : List (List ℕ)). value-at (t .names) ts (p .at)) (w .cells)
         ∙ ap (value-at (t .names) c) (w .place)
         ∙ ap (λ (m : ℕ). cond (ltb k (length (t .names))) (given (getD c m []) (spanIn i c m)) absent) e

@@ -2,10 +2,9 @@
 use Prim.Native.Nat.{ℕ, _+_, _-_, _≤_, _<_}
 use mathlib.Core.Path.{_≡_, refl, sym, ap, _∙_}
 use mathlib.Core.List.{List, [], _∷_}
-use mathlib.Core.Bool.{Bool, true, false, cond, _&&_, _||_}
+use mathlib.Core.Bool.{Bool, true, false, cond, _||_}
 use native.Mathlib.Omega.{arith}
 use lib.ListN.{length, getD, take, length-take}
-use lib.Dec.{eqb}
 use borrow.Author.Tests.{ne-eqb}
 use Rattle.text.specs.Bytes.{equal}
 use Rattle.text.specs.Cells.{firstPiece, laterPieces, lineAt, next}
@@ -19,7 +18,7 @@ use Rattle.exchange.specs.Columns.{Sort, bottle, ctd}
 use Rattle.exchange.specs.Places.{Place, first, comments, stopped, isMark, isBottle, isCtd, firstLineRules, isComment, lastPieceRules, endRules, stopAt, step, refused, run, outcomeOf}
 use Rattle.exchange.specs.Inner.Faults.{lineFault}
 use Rattle.exchange.specs.Inner.Walks.{linesFrom, StartsAt, lineOf, sortOf, FirstRead}
-use Rattle.exchange.proofs.NamesLineLaws.{cell-slice}
+use Rattle.exchange.proofs.GridWalkLaws.{cell-slice}
 use Rattle.exchange.proofs.RuleLaws.{first-step, comment-step}
 use Rattle.exchange.proofs.RunLaws.{piece-take, run-stopped, run-line, line-clean, line-broken, line-broken-here, starts-next}
 

@@ -28,7 +28,7 @@ use Rattle.exchange.specs.Records.{Value, given, absent, headerPlace, he
 use Rattle.exchange.specs.Inner.Walks.{textIn, namesAt}
 use Rattle.exchange.specs.Inner.Headers.{Parted, LineStands, HeaderLines, none, more}
 use Rattle.exchange.specs.Inner.Columns.{CellsFound}
-use Rattle.exchange.specs.Inner.Rows.{cellsOf}
+use Rattle.exchange.specs.Inner.Rows.{lineCells}
 use Rattle.exchange.specs.Inner.Values.{ValueRead, ColumnsStand, valueIn}
 use Rattle.exchange.proofs.HeaderLaws.{part-name, value-cell, value-stop}
 use Rattle.exchange.proofs.GridLaws.{SpanAt, span-at}
@@ -153,10 +153,10 @@ module _ {s : List ℕ} {place i : ℕ} (w : ColumnsStand s place i) (c : Cells)
     column-none h = rw (le-ltb (placeIn name (namesOf (lineAt s place))) (length (namesOf (lineAt s place))) (omega (arith, all-found, column-is)))
 
     module _ (h : k < c .count) where
-      value-is : valueIn s place i name ≡ given (getD (cellsOf s i) k []) (cellSpan s i k)
+      value-is : valueIn s place i name ≡ given (getD (lineCells s i) k []) (cellSpan s i k)
       unfolding valueIn
       value-is = rw (lt-ltb (placeIn name (namesOf (lineAt s place))) (length (namesOf (lineAt s place))) (omega (arith, all-found, column-is)))
-          (ap (λ (n : ℕ). given (getD (cellsOf s i) n []) (cellSpan s i n)) (sym column-is))
+          (ap (λ (n : ℕ). given (getD (lineCells s i) n []) (cellSpan s i n)) (sym column-is))
 
       pub column-found : (e : ℕ) (p : Span) → e ≡ i + length (lineAt s i) → p ≡ cellSpan s i k
           → ValueRead s (valueIn s place i name) (record { found = true; separator = 44; start = p .start; len = p .len; feed = e })

@@ -1,10 +1,10 @@
 -- Document 01, "Lines", names line, and "The catalogue": one to 256 names (H), each unique; flag columns and their parameters; the kind of each column.
 -- Cell by cell: 11, 10, 9; then 12 from the left; then 13.
-use Prim.Native.Nat.{ℕ, suc, _+_}
+use Prim.Native.Nat.{ℕ, _+_}
 use mathlib.Core.List.{List, [], _∷_, _++_, map}
-use mathlib.Core.Bool.{Bool, true, false, cond, not, _&&_, _||_}
+use mathlib.Core.Bool.{Bool, cond, not, _&&_, _||_}
 use lib.ListN.{length, take}
-use lib.Dec.{leb, ltb, eqb}
+use lib.Dec.{ltb}
 use Rattle.text.specs.Bytes.{bytes, equal}
 use Rattle.text.specs.Cells.{pieces}
 use Rattle.text.specs.Spaces.{trim}

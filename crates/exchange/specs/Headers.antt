@@ -1,9 +1,8 @@
 -- Document 01, "Lines", header lines of a CTD file: NAME = value, split at the first =, spaces round both parts dropped. The first is NUMBER_HEADERS
 -- with n from 1 to 64 in one or two digits (H). On one line: 8, 9, then 17, 16, 18 of the value; after the last, 13.
 use Prim.Native.Nat.{ℕ, zero, suc, _+_}
-use Prim.Native.String.{String}
 use mathlib.Core.List.{List, [], _∷_, map}
-use mathlib.Core.Bool.{Bool, true, false, cond, not, _&&_}
+use mathlib.Core.Bool.{cond, not, _&&_}
 use lib.ListN.{length, drop}
 use lib.Dec.{leb, ltb, eqb}
 use Rattle.text.specs.Bytes.{bytes, equal}

@@ -1,9 +1,8 @@
 -- Document 01, "Profiles": in a bottle file a profile is a longest run of consecutive rows with equal EXPOCODE, equal STNNBR (trimmed bytes) and equal
 -- CASTNO (as numbers); a CTD file is one profile. The missing readings are the pairs of a row and a measured column that read as missing.
-use Prim.Native.Nat.{ℕ, zero, suc, _+_}
+use Prim.Native.Nat.{ℕ, _+_}
 use mathlib.Core.List.{List, [], _∷_, map}
-use mathlib.Core.Bool.{Bool, true, false, cond, _&&_}
-use lib.ListN.{length, getD, take, drop}
+use mathlib.Core.Bool.{Bool, cond, _&&_}
 use lib.Dec.{eqb}
 use Rattle.text.specs.Bytes.{equal}
 use Rattle.text.specs.Cells.{pieces}

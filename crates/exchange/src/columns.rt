@@ -3,14 +3,14 @@ ghost use mathlib.Core.Path.{_≡_};
 ghost use mathlib.Core.Bool.{cond};
 ghost use Prim.Native.Nat.{_+_, _≤_, _<_};
 ghost use mathlib.Core.List.{[]};
-ghost use lib.ListN.{length, getD};
+ghost use lib.ListN.{length};
 ghost use Rattle.text.specs.Cells.{lineAt, pieces};
 ghost use Rattle.text.specs.Names.{beginsCtd};
 ghost use Rattle.text.specs.Judge.{flag, ctdFlag};
 ghost use Rattle.text.specs.Catalogue.{codeOf};
 ghost use Rattle.exchange.specs.declared.names.NameFault.the-variants.{Clean};
 ghost use Rattle.exchange.specs.Faults.{hasAll};
-ghost use Rattle.exchange.specs.Columns.{Sort, namesOf, requiredNames};
+ghost use Rattle.exchange.specs.Columns.{namesOf, requiredNames};
 ghost use Rattle.exchange.specs.Inner.Names.{faultIn};
 ghost use Rattle.exchange.specs.Inner.Columns.{Ends, Placed, CellsFound, KindsRead, parameterPlace};
 ghost use Rattle.exchange.specs.Inner.Walks.{ColumnsRead, sortFor, namesAt};
@@ -196,14 +196,12 @@ pub fn read_columns(s: &[u8], at: usize, e: usize, bottle: bool) -> Columns
 {
     let c = cells_of(s, at, e);
     match first_fault(s, &c.starts, &c.ends, c.count) {
-        NameFault::Bad(k) => columns_refused(
-            refusals::BAD_COLUMN_NAME,
-            ((c.starts[k] - at) as u64) + 1,
-        ),
-        NameFault::Repeated(k) => columns_refused(
-            refusals::NAME_REPEATED,
-            ((c.starts[k] - at) as u64) + 1,
-        ),
+        NameFault::Bad(k) => {
+            columns_refused(refusals::BAD_COLUMN_NAME, ((c.starts[k] - at) as u64) + 1)
+        }
+        NameFault::Repeated(k) => {
+            columns_refused(refusals::NAME_REPEATED, ((c.starts[k] - at) as u64) + 1)
+        }
         NameFault::Clean => good_columns(s, at, c, bottle),
     }
 }

@@ -10,7 +10,7 @@ ghost use Rattle.text.specs.Scans.{Stop};
 ghost use Rattle.exchange.specs.Rows.{isEndData};
 ghost use Rattle.exchange.specs.Profiles.{sameKey};
 ghost use Rattle.exchange.specs.Inner.Walks.{DataRead};
-ghost use Rattle.exchange.specs.Inner.Rows.{spanText, keyAt, KeysWithin, cellsOf, rowRefused, RowRead, dataRefused, withRow, DataHeld, LineRead};
+ghost use Rattle.exchange.specs.Inner.Rows.{spanText, keyAt, KeysWithin, lineCells, rowRefused, RowRead, dataRefused, withRow, DataHeld, LineRead};
 use crate::grid::cells_between;
 use crate::lines::line_at;
 use text::Keys;
@@ -58,7 +58,7 @@ pub fn one(b: bool) -> u64
 // The refusal of a row at a cell, `rest` cells being due from it on: 15 comes before the cell's.
 fn refused_at(s: &[u8], start: usize, at: usize, e: usize, rest: usize, number: u64) -> Row
     requires { ⌜ Stop 44 (now s) at e ⌝ }
-    ensures { λ r. ⌜ r ≡ cond (eqb (length (cellsOf (now (s .entry)) at)) rest) (rowRefused at number) (rowRefused start 15) ⌝ }
+    ensures { λ r. ⌜ r ≡ cond (eqb (length (lineCells (now (s .entry)) at)) rest) (rowRefused at number) (rowRefused start 15) ⌝ }
 {
     if cells_between(s, at, e) == rest {
         row_refused(at, number)

@@ -1,7 +1,7 @@
 -- The words of the contracts of the names line; no promise of a public call cites them.
-use Prim.Native.Nat.{ℕ, zero, suc, _+_, _≤_, _<_}
+use Prim.Native.Nat.{ℕ, _+_, _≤_, _<_}
 use mathlib.Core.Path.{_≡_}
-use mathlib.Core.List.{List, [], _∷_}
+use mathlib.Core.List.{List, map}
 use mathlib.Core.Bool.{cond}
 use lib.ListN.{length, getD, take}
 use Rattle.text.specs.Cells.{lineAt, pieces}
@@ -9,14 +9,13 @@ use Rattle.exchange.specs.declared.columns.Cells.{Cells}
 use Rattle.exchange.specs.declared.columns.Columns.{Columns}
 use Rattle.exchange.specs.Columns.{isFlag, namesOf, kindsOf, flagsOf}
 use Rattle.exchange.specs.Faults.{placeIn}
+use Rattle.exchange.specs.Grid.{starts}
 use Rattle.exchange.specs.Inner.Faults.{flagFault}
 use Rattle.exchange.specs.Inner.Walks.{namesAt, asFault}
 
 -- where piece k starts, the first starting at c
 unfoldable pub startOf : ℕ → List (List ℕ) → ℕ → ℕ
-startOf c [] k = c
-startOf c (t ∷ ts) zero = c
-startOf c (t ∷ ts) (suc k) = startOf (c + length t + 1) ts k
+startOf c ts k = c + starts (map length ts) k
 
 -- the line that goes on at i has its line feed at e
 pub record Ends (s : List ℕ) (i e : ℕ) : Type 0 where
@@ -24,13 +23,13 @@ pub record Ends (s : List ℕ) (i e : ℕ) : Type 0 where
   pub far : e ≡ i + length (lineAt s i)
 
 -- n cells of the line that goes on at `at` by their places
-pub record Placed (s : List ℕ) (at n : ℕ) (starts ends : List ℕ) : Type 0 where
+pub record Placed (s : List ℕ) (at n : ℕ) (begins ends : List ℕ) : Type 0 where
   pub few : n ≤ 256
-  pub wide : length starts ≡ 256
+  pub wide : length begins ≡ 256
   pub broad : length ends ≡ 256
-  pub names : namesAt s n starts ends ≡ take n (namesOf (lineAt s at))
-  pub begin : (k : ℕ) → k < n → getD starts k 0 ≡ startOf at (pieces 44 (lineAt s at)) k
-  pub inside : (k : ℕ) → k < n → getD starts k 0 < length s
+  pub names : namesAt s n begins ends ≡ take n (namesOf (lineAt s at))
+  pub begin : (k : ℕ) → k < n → getD begins k 0 ≡ startOf at (pieces 44 (lineAt s at)) k
+  pub inside : (k : ℕ) → k < n → getD begins k 0 < length s
 
 -- the cells of the line, 256 at the most
 pub record CellsFound (s : List ℕ) (at : ℕ) (r : Cells) : Type 0 where

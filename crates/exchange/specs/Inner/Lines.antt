@@ -1,11 +1,8 @@
 -- The words of the contracts of the code's line pass; no promise of a public call cites them.
-use Prim.Native.Nat.{ℕ, _+_, _≤_}
-use mathlib.Core.Path.{_≡_}
+use Prim.Native.Nat.{ℕ, _≤_}
 use mathlib.Core.List.{List}
 use mathlib.Core.Bool.{Bool, not, _||_}
-use lib.ListN.{length, getD}
 use lib.Dec.{ltb}
-use Rattle.text.specs.Cells.{lineAt}
 use Rattle.text.specs.Scans.{Scan}
 
 -- bytes 20 to 7E

@@ -12,12 +12,12 @@ use Rattle.exchange.specs.Faults.{clean}
 use Rattle.exchange.specs.Inner.Faults.{rowFault}
 use Rattle.exchange.specs.Profiles.{keyOf, labels, rowsOf}
 use Rattle.exchange.specs.Inner.Walks.{rowsFrom}
-use Rattle.exchange.specs.Inner.Rows.{cellsOf}
+use Rattle.exchange.specs.Inner.Rows.{lineCells}
 
 -- from place i on stand n data lines that keep their rules
 pub data RowLines (s ks : List ℕ) : ℕ → ℕ → Type 0 where
   none : {i : ℕ} → RowLines s ks i 0
-  more : {i n : ℕ} → Stop 44 s i (i + length (lineAt s i)) → rowFault ks (cellsOf s i) ≡ clean → RowLines s ks (i + length (lineAt s i) + 1) n → RowLines s ks i (suc n)
+  more : {i n : ℕ} → Stop 44 s i (i + length (lineAt s i)) → rowFault ks (lineCells s i) ≡ clean → RowLines s ks (i + length (lineAt s i) + 1) n → RowLines s ks i (suc n)
 
 -- a run with a row noted
 abbrev pub withNoted : Run → ℕ → Bool → Run

@@ -34,17 +34,17 @@ abbrev pub rowRefused : ℕ → ℕ → Row
 rowRefused at number = record { at = at; number = number; missing = 0; keys = noKeys }
 
 -- the cells of the line that starts at i
-abbrev pub cellsOf : List ℕ → ℕ → List (List ℕ)
-cellsOf s i = pieces 44 (lineAt s i)
+abbrev pub lineCells : List ℕ → ℕ → List (List ℕ)
+lineCells s i = pieces 44 (lineAt s i)
 
 pub record RowRead (s ks : List ℕ) (i : ℕ) (r : Row) : Type 0 where
-  pub fault : asFault (r .number) (r .at - i + 1) ≡ rowFault ks (cellsOf s i)
+  pub fault : asFault (r .number) (r .at - i + 1) ≡ rowFault ks (lineCells s i)
   pub low : i ≤ r .at
   pub high : r .at < length s
   pub few : r .missing ≤ 256
   pub within : KeysWithin s (r .keys)
-  pub missing : r .number ≡ 0 → r .missing ≡ missingInRow ks (cellsOf s i)
-  pub key : r .number ≡ 0 → keyAt s (r .keys) ≡ keyOf ks (cellsOf s i)
+  pub missing : r .number ≡ 0 → r .missing ≡ missingInRow ks (lineCells s i)
+  pub key : r .number ≡ 0 → keyAt s (r .keys) ≡ keyOf ks (lineCells s i)
 
 -- ---- one line after d
 abbrev pub dataRefused : Data → ℕ → ℕ → Data
@@ -89,9 +89,9 @@ pub record RowAdded (s ks : List ℕ) (d r : Data) : Type 0 where
   pub counted : r .rows ≡ d .rows + 1
   pub lines : linesFrom s (d .at) ≡ lineAt s (d .at) ∷ linesFrom s (r .at)
   pub on : (t : Table) (l : ℕ) → kindsOf (t .names) ≡ ks → run l (rows t (d .rows)) (linesFrom s (d .at)) ≡ run (l + 1) (rows t (r .rows)) (linesFrom s (r .at))
-  pub missing : r .missing ≡ d .missing + missingInRow ks (cellsOf s (d .at))
-  pub profiles : r .profiles ≡ d .profiles + border s d (keyOf ks (cellsOf s (d .at)))
-  pub last : keyAt s (r .last) ≡ keyOf ks (cellsOf s (d .at))
+  pub missing : r .missing ≡ d .missing + missingInRow ks (lineCells s (d .at))
+  pub profiles : r .profiles ≡ d .profiles + border s d (keyOf ks (lineCells s (d .at)))
+  pub last : keyAt s (r .last) ≡ keyOf ks (lineCells s (d .at))
 
 -- END_DATA was read, or a rule is broken
 pub record DataEnded (s ks : List ℕ) (d r : Data) : Type 0 where

@@ -23,7 +23,7 @@ use Rattle.exchange.specs.Records.{Value, given, absent, headerValue, he
 use Rattle.exchange.specs.Inner.Walks.{sortOf}
 use Rattle.exchange.specs.Inner.Headers.{HeaderLines}
 use Rattle.exchange.specs.Inner.Columns.{Ends}
-use Rattle.exchange.specs.Inner.Rows.{cellsOf}
+use Rattle.exchange.specs.Inner.Rows.{lineCells}
 use Rattle.exchange.specs.Inner.Profiles.{RunOf}
 
 -- ---- a value by place
@@ -52,12 +52,12 @@ pub record ColumnsStand (s : List ℕ) (place i : ℕ) : Type 0 where
   pub fed : Ends s place (place + length (lineAt s place))
   pub few : length (namesOf (lineAt s place)) ≤ 256
   pub row : Stop 44 s i (i + length (lineAt s i))
-  pub many : length (cellsOf s i) ≡ length (namesOf (lineAt s place))
+  pub many : length (lineCells s i) ≡ length (namesOf (lineAt s place))
 
 unfoldable pub valueIn : List ℕ → ℕ → ℕ → List ℕ → Value
 valueIn s place i name =
     cond (ltb (placeIn name (namesOf (lineAt s place))) (length (namesOf (lineAt s place))))
-    (given (getD (cellsOf s i) (placeIn name (namesOf (lineAt s place))) []) (cellSpan s i (placeIn name (namesOf (lineAt s place)))))
+    (given (getD (lineCells s i) (placeIn name (namesOf (lineAt s place))) []) (cellSpan s i (placeIn name (namesOf (lineAt s place)))))
     absent
 
 -- ---- a profile found
@@ -72,7 +72,7 @@ pub record ValuesIn (s : List ℕ) (t : Table) (p : ProfileAt) : Type 0 where
   pub sort : t .sort ≡ sortOf (p .kind)
   pub named : t .names ≡ namesOf (lineAt s (p .names))
   pub columns : ColumnsStand s (p .names) (p .at)
-  pub cells : cellsOf s (p .at) ≡ rowCells t s (p .first)
+  pub cells : lineCells s (p .at) ≡ rowCells t s (p .first)
   pub place : p .at ≡ starts (map length (pieces 10 s)) (t .line + (p .first - 1))
   pub headers : t .sort ≡ ctd → HeaderLines s (p .names) (p .headers) (headersLine t) (t .headers)
 

@@ -2,7 +2,7 @@
 use Prim.Native.Nat.{ℕ, zero, suc, _+_, _-_, _≤_, _<_}
 use mathlib.Core.Path.{_≡_}
 use mathlib.Core.List.{List, [], _∷_, map}
-use mathlib.Core.Bool.{Bool, true, false, cond}
+use mathlib.Core.Bool.{Bool, cond}
 use lib.ListN.{length, getD, take, drop}
 use lib.Dec.{ltb, eqb}
 use Rattle.text.specs.Cells.{lineAt, pieces}
@@ -17,9 +17,9 @@ use Rattle.exchange.specs.declared.table.FileTable.{FileTable}
 use Rattle.exchange.specs.Faults.{Fault, clean, breaks}
 use Rattle.exchange.specs.Headers.{Header}
 use Rattle.exchange.specs.Columns.{Sort, bottle, ctd, namesOf, kindsOf, flagsOf}
-use Rattle.exchange.specs.Places.{Table, comments, names, rows, after, Outcome, accepted, refused, run, outcomeOf}
+use Rattle.exchange.specs.Places.{Table, comments, names, rows, after, refused, run, outcomeOf}
 use Rattle.exchange.specs.Inner.Faults.{lineFault, unendedFault, namesLineFault}
-use Rattle.exchange.specs.Profiles.{missingInRows, keyOf, Key, runCount}
+use Rattle.exchange.specs.Profiles.{missingInRows, keyOf, runCount}
 
 -- the lines from place i on
 abbrev pub linesFrom : List ℕ → ℕ → List (List ℕ)

@@ -1,10 +1,9 @@
 -- The loop's invariant: `left` cells on from i as `column` from the start.
-use Prim.Native.Nat.{ℕ, _+_, _-_, _≤_, _<_}
+use Prim.Native.Nat.{ℕ, _+_, _-_, _≤_}
 use mathlib.Core.Path.{_≡_, refl, sym, _∙_, ap, subst}
 use native.Mathlib.Omega.{arith}
-use lib.ListN.{length, getD}
+use lib.ListN.{getD}
 use borrow.Author.Needs.{needs}
-use Rattle.text.specs.Cells.{next}
 use Rattle.text.proofs.CellLaws.{stop-moved, stop-short}
 use Rattle.exchange.specs.Grid.{cellSpan}
 use Rattle.exchange.proofs.GridWalkLaws.{span-first, span-none, span-more}

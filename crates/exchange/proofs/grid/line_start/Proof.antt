@@ -1,9 +1,9 @@
 -- The loop's invariant: so many line feeds on from `at` as from the start.
-use Prim.Native.Nat.{ℕ, _+_, _-_, _≤_, _<_}
-use mathlib.Core.Path.{_≡_, refl, sym, _∙_, ap, subst}
+use Prim.Native.Nat.{_+_, _-_, _≤_, _<_}
+use mathlib.Core.Path.{_≡_, sym, _∙_}
 use mathlib.Core.Logic.{⊎-elim}
 use native.Mathlib.Omega.{arith}
-use lib.ListN.{length, getD}
+use lib.ListN.{length}
 use borrow.Author.Needs.{needs}
 use Rattle.exchange.specs.Inner.Grid.{skipped}
 use Rattle.exchange.proofs.GridWalkLaws.{start-skipped, skipped-none, skipped-end, skipped-last, skipped-fed, skipped-past}
