@@ -19,8 +19,8 @@ use Rattle.laws.proofs.WriteLaws.{row-holds, Fits, file-written}
 use Rattle.text.specs.declared.Span.{Span}
 use Rattle.correction.specs.declared.Answer.{Answer}
 use Rattle.correction.specs.declared.Answer.the-variants.{Applied, Refused}
-use Rattle.exchange.specs.Rows.{boundList}
-use Rattle.exchange.specs.RuleWords.{boundFault}
+use Rattle.exchange.specs.Rows.{boundRules}
+use Rattle.exchange.specs.Inner.Faults.{boundFault}
 use Rattle.correction.specs.Corrections.{Order, answerOf, textsOf, correctedOf}
 use Rattle.correction.proofs.GeometryLaws.{Grid, Shape, shape, lineLong, ungrid-long}
 use Rattle.correction.proofs.PutLaws.{Put, puts, Fit, PutsDone, puts-done, inRow, puts-row}
@@ -43,7 +43,7 @@ on-line sh l (c ∷ cs) (x ∷ xs) = (refl, on-line sh l cs xs)
 
 -- what binds the cells of a row together holds of the corrected row
 bound-kept : (ns ts : List (List ℕ)) → boundFault ns ts ≡ clean
-unfolding boundFault boundList firstOf
+unfolding boundFault boundRules firstOf
 bound-kept ns ts = refl
 
 -- ---- an accepted file, an applied correction

@@ -22,10 +22,10 @@ use Rattle.text.proofs.CellLaws.{next-from, next-within, cell-in, cell-end}
 use Rattle.text.proofs.SpaceLaws.{slice-take}
 use Rattle.text.proofs.JudgeLaws.{judged-stop, judged-next, whole-stop, whole-next}
 use Rattle.text.proofs.ReadingLaws.{signed-small, number-back}
-use Rattle.exchange.specs.ColumnWords.{Ends}
-use Rattle.exchange.proofs.CellsLaws.{cell-slice}
+use Rattle.exchange.specs.Inner.Columns.{Ends}
+use Rattle.exchange.proofs.GridWalkLaws.{cell-slice}
 use Rattle.exchange.proofs.GridLaws.{total, total-pieces}
-use Rattle.exchange.proofs.AskLaws.{size-anywhere}
+use Rattle.exchange.proofs.CellLaws.{size-anywhere}
 use Rattle.correction.specs.declared.ListLine.{ListLine}
 use Rattle.correction.specs.ListLines.{malformed, whole, isRow, decimalIn, millionthsIn, decimalsIn, byFields, isOneLine, lineRead}
 use Rattle.correction.proofs.FieldLaws.{after, field, fields, tabs-stop, after-ends, after-fields, allGood, listed, lineOf, fields-line, goodAt, lineWith, four-fields}

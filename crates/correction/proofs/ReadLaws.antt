@@ -16,7 +16,7 @@ use Rattle.exchange.specs.Places.{Table, Outcome, accepted, refused, outcomeOf}
 use Rattle.exchange.specs.Profiles.{grid}
 use Rattle.exchange.specs.Answers.{found, askedBy, askedOf, cellText, readingBy, readingFor, flaggedBy, flaggedOf}
 use Rattle.exchange.specs.Located.{nameAt, flagColumn, hasFlag, flagColumnBy, flagColumnOf}
-use Rattle.exchange.proofs.AskLaws as ask
+use Rattle.exchange.proofs.CellLaws as ask
 use Rattle.correction.specs.declared.Answer.{Answer}
 use Rattle.correction.specs.declared.Answer.the-variants.{Applied}
 use Rattle.correction.specs.Texts.{numberText, flagText, atRight}
