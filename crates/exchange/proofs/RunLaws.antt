@@ -12,6 +12,8 @@ use Rattle.text.specs.declared.Found.{Found}
 use Rattle.text.specs.declared.Found.the-variants.{At, Nowhere}
 use Rattle.text.specs.Cells.{firstPiece, laterPieces, pieces, lineAt}
 use Rattle.text.specs.Lines.{illFormed, returnAt, controlAt}
+use Rattle.text.specs.Scans.{Stop}
+use Rattle.exchange.specs.declared.lines.Line.{Line}
 use Rattle.exchange.specs.Faults.{Fault, clean, breaks, _then_, unless, firstOf}
 use Rattle.exchange.specs.LineRules.{foundFault, lineTooLong, lineRules, byteRules, unendedRules}
 use Rattle.exchange.specs.Places.{Place, stopped, rulesAt, endRules, nextPlace, step, refused, run}
@@ -202,3 +204,28 @@ pub starts-next : (s : List ℕ) (l i : ℕ) → 1 ≤ l → StartsAt s l i → 
 starts-next s l i o e h =
     let n : l - 1 + 1 ≡ l + 1 - 1 = omega arith in
     sym (ap (λ (ps : List (List ℕ)). drop 1 ps) (sym e ∙ lines-more s i h)) ∙ drop-drop 1 (l - 1) (pieces 10 s) ∙ ap (λ (k : ℕ). drop k (pieces 10 s)) n
+
+-- ---- a line that keeps rules 1 to 5
+module _ (control : Bool) (s : List ℕ) (i : ℕ) (r : Line) (e : r ≡ lineOf control s i) (z : r .number ≡ 0) where
+  pub line-rules : lineFault control (lineAt s i) ≡ clean
+  line-rules = line-clean control s i (rw e at z) .0
+
+  pub line-ends : (r .end ≡ i + length (lineAt s i)) × (r .end < length s)
+  line-ends = let w = line-clean control s i (rw e at z) in rw e (w .2, omega (arith, w .1, w .2))
+
+  pub line-stops : Stop 44 s i (r .end)
+  line-stops =
+      let w = line-clean control s i (rw e at z) in
+      let d = line-ends in
+      record { inside = omega (arith, d .0); room = d .1; feed = rw e (w .3); parts = refl }
+
+  pub run-on : (l : ℕ) (p q : Place) → step l p (lineAt s i) ≡ q → run l p (linesFrom s i) ≡ run (l + 1) q (linesFrom s (r .end + 1))
+  run-on l p q f =
+      let d = line-ends in
+      run-line l p s i (omega (arith, d .0, d .1)) ∙ ap (λ (x : Place). run (l + 1) x (linesFrom s (i + length (lineAt s i) + 1))) f
+      ∙ ap (λ (j : ℕ). run (l + 1) q (linesFrom s (j + 1))) (sym (d .0))
+
+  pub starts-on : (l : ℕ) → 1 ≤ l → StartsAt s l i → StartsAt s (l + 1) (r .end + 1)
+  starts-on l k f =
+      let d = line-ends in
+      rw (d .0) (starts-next s l i k f (omega (arith, d .0, d .1)))

@@ -2,69 +2,40 @@
 use Prim.Native.Nat.{ℕ, zero, suc, _+_, _-_, _≤_, _<_}
 use mathlib.Core.Path.{_≡_, refl, sym, ap, subst, _∙_}
 use mathlib.Core.List.{List, [], _∷_, map}
-use mathlib.Core.Bool.{Bool, true, false}
+use mathlib.Core.Bool.{Bool, true, false, true≢false}
 use native.Mathlib.Omega.{arith}
 use lib.ListN.{length, getD, length-take, length-map}
 use lib.Dec.{eqb, ltb}
 use borrow.Author.Tests.{eqb-true, eq-eqb, ne-eqb, ltb-true, ltb-false}
 use Rattle.text.specs.Bytes.{equal}
 use Rattle.text.specs.Cells.{pieces, lineAt}
-use Rattle.text.specs.Scans.{Stop}
 use Rattle.text.proofs.CellLaws.{line-in, line-end, count-step}
 use Rattle.exchange.specs.declared.columns.Columns.{Columns}
 use Rattle.exchange.specs.declared.lines.Line.{Line}
 use Rattle.exchange.specs.declared.table.FileTable.{FileTable}
+use Rattle.exchange.specs.declared.top.Walk.{Walk}
 use Rattle.exchange.specs.Faults.{clean, breaks, firstOf}
 use Rattle.exchange.specs.Headers.{Header}
 use Rattle.exchange.specs.Columns.{Sort, bottle, ctd, namesOf, kindOfName, kindsOf}
-use Rattle.exchange.specs.Places.{Table, Place, comments, names, units, rows, after, stopped, isComment, lastPieceRules, endRules, step, Outcome, accepted, refused, run, outcomeOf}
-use Rattle.exchange.specs.Inner.Faults.{lineFault, namesLineFault}
+use Rattle.exchange.specs.Places.{Table, Place, comments, names, units, rows, after, stopped, isComment, lastPieceRules, endRules, Outcome, accepted, refused, run, outcomeOf}
+use Rattle.exchange.specs.Inner.Faults.{namesLineFault}
 use Rattle.exchange.specs.Profiles.{missingInRows, keyOf, runCount}
-use Rattle.exchange.specs.Inner.Walks.{linesFrom, rowsFrom, StartsAt, lineOf, asFault, sortOf, sortFor, ColumnsRead, TableRead}
+use Rattle.exchange.specs.Inner.Walks.{linesFrom, rowsFrom, StartsAt, lineOf, asFault, sortOf, sortFor, ended, FreeRead, ColumnsRead, TableRead}
 use Rattle.exchange.specs.Inner.Table.{Told, RowsRead, UnitsRead, tableOf, NamesRead, FileRead}
 use Rattle.exchange.specs.Inner.Headers.{HeaderLines}
 use Rattle.exchange.specs.Records.{headersLine}
 use Rattle.exchange.proofs.AcceptLaws.{accepted-table}
-use Rattle.exchange.proofs.RuleLaws.{names-step, bottle-step, units-step, after-step, last-cut}
-use Rattle.exchange.proofs.RunLaws.{run-stopped, lines-end, lines-cut, run-line, line-clean, line-broken, starts-next}
+use Rattle.exchange.proofs.RuleLaws.{names-step, bottle-step, units-step, last-cut}
+use Rattle.exchange.proofs.RunLaws.{run-stopped, lines-end, lines-cut, run-line, line-broken, line-rules, run-on}
 
--- ---- a line that keeps rules 1 to 5
-module _ (control : Bool) (s : List ℕ) (i : ℕ) (r : Line) (e : r ≡ lineOf control s i) (z : r .number ≡ 0) where
-  line-rules : lineFault control (lineAt s i) ≡ clean
-  line-rules = line-clean control s i (rw e at z) .0
-
-  pub line-ends : (r .end ≡ i + length (lineAt s i)) × (r .end < length s)
-  line-ends = let w = line-clean control s i (rw e at z) in rw e (w .2, omega (arith, w .1, w .2))
-
-  pub line-stops : Stop 44 s i (r .end)
-  line-stops =
-      let w = line-clean control s i (rw e at z) in
-      let d = line-ends in
-      record { inside = omega (arith, d .0); room = d .1; feed = rw e (w .3); parts = refl }
-
-  run-on : (l : ℕ) (p q : Place) → step l p (lineAt s i) ≡ q → run l p (linesFrom s i) ≡ run (l + 1) q (linesFrom s (r .end + 1))
-  run-on l p q f =
-      let d = line-ends in
-      run-line l p s i (omega (arith, d .0, d .1)) ∙ ap (λ (x : Place). run (l + 1) x (linesFrom s (i + length (lineAt s i) + 1))) f
-      ∙ ap (λ (j : ℕ). run (l + 1) q (linesFrom s (j + 1))) (sym (d .0))
-
-  pub starts-on : (l : ℕ) → 1 ≤ l → StartsAt s l i → StartsAt s (l + 1) (r .end + 1)
-  starts-on l k f =
-      let d = line-ends in
-      rw (d .0) (starts-next s l i k f (omega (arith, d .0, d .1)))
-
--- ---- the lines after END_DATA
-module _ (s : List ℕ) (i : ℕ) (t : Table) (n l : ℕ) where
-  pub after-end : length s ≤ i → run l (after t n) (linesFrom s i) ≡ accepted t n
-  unfolding run endRules lastPieceRules firstOf
-  after-end h = rw (lines-end s i h)
-
-  module _ (r : Line) (e : r ≡ lineOf false s i) where
-    pub after-broken : i < length s → (r .number ≡ 0 → ⊥) → run l (after t n) (linesFrom s i) ≡ refused (r .number) l (r .column)
-    after-broken h z = rw e (line-broken l (after t n) s i false h (rw e at z) (λ x m c d. after-step l t n x ∙ rw d) tt)
-
-    pub after-on : r .number ≡ 0 → run l (after t n) (linesFrom s i) ≡ run (l + 1) (after t n) (linesFrom s (r .end + 1))
-    after-on z = run-on false s i r e z l (after t n) (after t n) (after-step l t n (lineAt s i) ∙ rw (line-rules false s i r e z))
+-- ---- the lines after END_DATA, all of them read
+pub after-all : (s : List ℕ) (i l : ℕ) (r : Walk) → FreeRead false s i l r → r .number ≡ 0 → (t : Table) (n : ℕ) → run l (after t n) (linesFrom s i) ≡ accepted t n
+unfolding run endRules lastPieceRules firstOf
+after-all s i l r w z t n = w .on (after t n) ended z ∙ go (ltb (r .at) (length s)) refl
+  where
+    go : (b : Bool) → ltb (r .at) (length s) ≡ b → run (r .line) (after t n) (linesFrom s (r .at)) ≡ accepted t n
+    go true e = absurd (true≢false (sym (w .other z (ltb-true (r .at) (length s) e) .0)))
+    go false e = rw (lines-end s (r .at) (ltb-false (r .at) (length s) e))
 
 -- ---- the cells of a line counted byte by byte
 module _ (s : List ℕ) (p : ℕ) (l : p < length s) (n : getD s p 0 ≡ 10 → ⊥) where

@@ -1,9 +1,9 @@
 // The whole file, line after line: its table, or the first broken rule.
 ghost use mathlib.Core.Path.{_≡_};
-ghost use Prim.Native.Nat.{_+_, _^_, _≤_, _<_};
+ghost use Prim.Native.Nat.{_+_, _≤_, _<_};
 ghost use lib.ListN.{length};
 ghost use Rattle.exchange.specs.Inner.Walks.{sortOf};
-ghost use Rattle.exchange.specs.Inner.Table.{kindsIn, TailRead, Told, RowsRead, UnitsRead, NamesRead, FileRead};
+ghost use Rattle.exchange.specs.Inner.Table.{kindsIn, Told, RowsRead, UnitsRead, NamesRead, FileRead};
 use crate::columns::Columns;
 use crate::columns::read_columns;
 use crate::grid::cells_between;
@@ -12,9 +12,8 @@ use crate::lines::line_at;
 use crate::rows::read_data;
 use crate::top::BOTTLE;
 use crate::top::CTD;
-use crate::top::Walk;
-use crate::top::comments;
 use crate::top::first_line;
+use crate::top::free_lines;
 use text::refusals;
 
 // What the check finds out about a file: the first broken rule, or its table. The data lines start at `data`, the names line at `names`, the headers, in a
@@ -55,35 +54,6 @@ fn refused(number: u64, line: u64, column: u64) -> FileTable
     }
 }
 
-// The lines after END_DATA: rules 1 to 4. The first broken one, with its line. A line's number passes its place by little more than the million data lines
-// at the most.
-fn tail(s: &[u8], start: usize, first: u64) -> Walk
-    requires { ⌜ (start ≤ length (now s)) × (first ≤ start + 2 ^ 20) ⌝ }
-    ensures { λ r. ⌜ TailRead (now (s .entry)) start first r ⌝ }
-{
-    let mut at = start;
-    let mut line = first;
-    while at < s.len() {
-        let l = line_at(s, at, false);
-        if l.number != 0 {
-            return Walk {
-                at,
-                line,
-                number: l.number,
-                column: l.column,
-            };
-        }
-        at = l.end + 1;
-        line += 1;
-    }
-    Walk {
-        at,
-        line,
-        number: 0,
-        column: 0,
-    }
-}
-
 // The data lines from `start` on, which is line `line`, and the lines after them.
 fn below_units(
     s: &[u8],
@@ -104,7 +74,7 @@ fn below_units(
     if d.number != 0 {
         return refused(d.number, line + d.rows, d.column);
     }
-    let w = tail(s, d.at, line + d.rows + 1);
+    let w = free_lines(s, d.at, line + d.rows + 1, false);
     if w.number != 0 {
         return refused(w.number, w.line, w.column);
     }
@@ -180,7 +150,7 @@ pub fn table_of(s: &[u8]) -> FileTable
     if f.number != 0 {
         return refused(f.number, 1, f.column);
     }
-    let c = comments(s, f.at, 2);
+    let c = free_lines(s, f.at, 2, true);
     if c.number != 0 {
         return refused(c.number, c.line, c.column);
     }

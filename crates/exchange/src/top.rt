@@ -1,12 +1,12 @@
-// Line 1, which says what kind of file it is, and the comment lines after it.
+// Line 1, which says what kind of file it is; and the lines that rules 1 to 4 alone bind: comment lines, and those after END_DATA.
 ghost use mathlib.Core.Path.{_≡_};
 ghost use mathlib.Core.Bool.{cond};
-ghost use Prim.Native.Nat.{_+_, _≤_};
+ghost use Prim.Native.Nat.{_+_, _^_, _≤_};
 ghost use lib.ListN.{length};
 ghost use Rattle.text.specs.Cells.{lineAt};
 ghost use Rattle.text.specs.Scans.{Stop};
 ghost use Rattle.exchange.specs.Places.{isMark, isBottle, isCtd};
-ghost use Rattle.exchange.specs.Inner.Walks.{FirstRead, CommentsRead};
+ghost use Rattle.exchange.specs.Inner.Walks.{FirstRead, FreeRead};
 use crate::grid::cell_end;
 use crate::lines::line_at;
 use text::refusals;
@@ -96,15 +96,16 @@ pub fn first_line(s: &[u8]) -> First
     }
 }
 
-// The comment lines from `at` on: the walk ends at the first line that is none.
-pub fn comments(s: &[u8], start: usize, first: u64) -> Walk
-    requires { ⌜ (start ≤ length (now s)) × (first ≤ start + 2) ⌝ }
-    ensures { λ r. ⌜ CommentsRead (now (s .entry)) start first r ⌝ }
+// The lines from `start` on that rules 1 to 4 alone bind: with `comments` the comment lines, up to the first line that is none, else all lines. A line's number
+// passes its place by little more than the million data lines at the most.
+pub fn free_lines(s: &[u8], start: usize, first: u64, comments: bool) -> Walk
+    requires { ⌜ (start ≤ length (now s)) × (first ≤ start + 2 ^ 20) ⌝ }
+    ensures { λ r. ⌜ FreeRead comments (now (s .entry)) start first r ⌝ }
 {
     let mut at = start;
     let mut line = first;
     while at < s.len() {
-        if s[at] != b'#' {
+        if comments & (s[at] != b'#') {
             return Walk {
                 at,
                 line,

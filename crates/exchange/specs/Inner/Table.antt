@@ -5,20 +5,14 @@ use mathlib.Core.List.{List, map}
 use lib.ListN.{length, take}
 use Rattle.text.specs.Cells.{lineAt}
 use Rattle.exchange.specs.declared.columns.Columns.{Columns}
-use Rattle.exchange.specs.declared.top.Walk.{Walk}
 use Rattle.exchange.specs.declared.table.FileTable.{FileTable}
 use Rattle.exchange.specs.Headers.{Header}
 use Rattle.exchange.specs.Columns.{Sort, ctd, namesOf, kindsOf}
-use Rattle.exchange.specs.Places.{Table, names, units, rows, after, accepted, refused, run, outcomeOf}
+use Rattle.exchange.specs.Places.{Table, names, units, rows, accepted, refused, run, outcomeOf}
 use Rattle.exchange.specs.Profiles.{missingInRows, keyOf, runCount}
 use Rattle.exchange.specs.Inner.Walks.{linesFrom, rowsFrom, StartsAt, sortOf, TableRead}
 use Rattle.exchange.specs.Inner.Headers.{HeaderLines}
 use Rattle.exchange.specs.Records.{headersLine}
-
--- the lines after END_DATA, from place i on, which is line l
-pub record TailRead (s : List ℕ) (i l : ℕ) (r : Walk) : Type 0 where
-  pub stop : (t : Table) (n : ℕ) → (r .number ≡ 0 → ⊥) → run l (after t n) (linesFrom s i) ≡ refused (r .number) (r .line) (r .column)
-  pub on : (t : Table) (n : ℕ) → r .number ≡ 0 → run l (after t n) (linesFrom s i) ≡ accepted t n
 
 -- what the code's table says beside the run, by the columns c of the names line
 abbrev pub kindsIn : Columns → List ℕ

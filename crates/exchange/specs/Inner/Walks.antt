@@ -2,7 +2,7 @@
 use Prim.Native.Nat.{ℕ, zero, suc, _+_, _-_, _≤_, _<_}
 use mathlib.Core.Path.{_≡_}
 use mathlib.Core.List.{List, [], _∷_, map}
-use mathlib.Core.Bool.{Bool, cond}
+use mathlib.Core.Bool.{Bool, true, false, cond}
 use lib.ListN.{length, getD, take, drop}
 use lib.Dec.{ltb, eqb}
 use Rattle.text.specs.Cells.{lineAt, pieces}
@@ -17,7 +17,7 @@ use Rattle.exchange.specs.declared.table.FileTable.{FileTable}
 use Rattle.exchange.specs.Faults.{Fault, clean, breaks}
 use Rattle.exchange.specs.Headers.{Header}
 use Rattle.exchange.specs.Columns.{Sort, bottle, ctd, namesOf, kindsOf, flagsOf}
-use Rattle.exchange.specs.Places.{Table, comments, names, rows, after, refused, run, outcomeOf}
+use Rattle.exchange.specs.Places.{Table, Place, comments, names, rows, after, refused, run, outcomeOf}
 use Rattle.exchange.specs.Inner.Faults.{lineFault, unendedFault, namesLineFault}
 use Rattle.exchange.specs.Profiles.{missingInRows, keyOf, runCount}
 
@@ -68,11 +68,17 @@ pub record FirstRead (s : List ℕ) (r : First) : Type 0 where
   pub on : r .number ≡ 0 → (r .at ≤ length s) × (outcomeOf s ≡ run 2 (comments (sortOf (r .kind))) (linesFrom s (r .at)))
   pub counted : r .number ≡ 0 → StartsAt s 2 (r .at)
 
-pub record CommentsRead (s : List ℕ) (i l : ℕ) (r : Walk) : Type 0 where
-  pub stop : (k : Sort) → (r .number ≡ 0 → ⊥) → run l (comments k) (linesFrom s i) ≡ refused (r .number) (r .line) (r .column)
-  pub on : (k : Sort) → r .number ≡ 0 → run l (comments k) (linesFrom s i) ≡ run (r .line) (comments k) (linesFrom s (r .at))
-  pub inside : r .number ≡ 0 → (i ≤ r .at) × (r .at ≤ length s) × (r .line ≤ r .at + 2)
-  pub other : r .number ≡ 0 → r .at < length s → getD s (r .at) 0 ≡ 35 → ⊥
+-- a place that rules 1 to 4 alone bind, and that a line leaves as it is: that of comment lines, for a comment line; that after END_DATA
+pub data FreePlace : Bool → Place → Type 0 where
+  commented : {k : Sort} → FreePlace true (comments k)
+  ended : {t : Table} {n : ℕ} → FreePlace false (after t n)
+
+-- the lines at such a place from i on, which is line l: the comment lines only, or all lines
+pub record FreeRead (only : Bool) (s : List ℕ) (i l : ℕ) (r : Walk) : Type 0 where
+  pub stop : (p : Place) → FreePlace only p → (r .number ≡ 0 → ⊥) → run l p (linesFrom s i) ≡ refused (r .number) (r .line) (r .column)
+  pub on : (p : Place) → FreePlace only p → r .number ≡ 0 → run l p (linesFrom s i) ≡ run (r .line) p (linesFrom s (r .at))
+  pub inside : r .number ≡ 0 → (i ≤ r .at) × (r .at ≤ length s) × (r .line + i ≤ r .at + l)
+  pub other : r .number ≡ 0 → r .at < length s → (only ≡ true) × (getD s (r .at) 0 ≡ 35 → ⊥)
   pub counted : r .number ≡ 0 → 1 ≤ l → StartsAt s l i → (1 ≤ r .line) × StartsAt s (r .line) (r .at)
 
 -- the headers by place: a value goes on after its = to the line's end

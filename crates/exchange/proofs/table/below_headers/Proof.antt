@@ -2,7 +2,8 @@
 use mathlib.Core.Path.{sym, _∙_}
 use native.Mathlib.Omega.{arith}
 use borrow.Author.Needs.{needs}
-use Rattle.exchange.proofs.TableLaws.{line-ends, starts-on, kinds-room, names-none, names-broken, names-refused, names-on, table-refused, table-told}
+use Rattle.exchange.proofs.RunLaws.{line-ends, starts-on}
+use Rattle.exchange.proofs.TableLaws.{kinds-room, names-none, names-broken, names-refused, names-on, table-refused, table-told}
 use Rattle.exchange.proofs.table.below_headers.Statement.{statement}
 use Rattle.exchange.proofs.table.below_headers.Tie as tie
 

@@ -2,7 +2,8 @@
 use mathlib.Core.Path.{sym, _∙_}
 use native.Mathlib.Omega.{arith}
 use borrow.Author.Needs.{needs}
-use Rattle.exchange.proofs.TableLaws.{line-ends, line-stops, starts-on, units-none, units-broken, units-other, units-on, units-refused}
+use Rattle.exchange.proofs.RunLaws.{line-ends, line-stops, starts-on}
+use Rattle.exchange.proofs.TableLaws.{units-none, units-broken, units-other, units-on, units-refused}
 use Rattle.exchange.proofs.table.below_names.Statement.{statement}
 use Rattle.exchange.proofs.table.below_names.Tie as tie
 

@@ -1,9 +1,11 @@
--- The run from the first data line: what `read_data` says of the data lines, then what `tail` says of the lines after them.
+-- The run from the first data line: what `read_data` says of the data lines, then what `free_lines` says of the lines after them.
 use mathlib.Core.Path.{refl, sym, _∙_}
 use native.Mathlib.Omega.{arith}
 use lib.Seq.{length-take-le}
 use borrow.Author.Needs.{needs}
-use Rattle.exchange.proofs.TableLaws.{rows-refused}
+use Rattle.exchange.specs.Places.{after}
+use Rattle.exchange.specs.Inner.Walks.{ended}
+use Rattle.exchange.proofs.TableLaws.{after-all, rows-refused}
 use Rattle.exchange.proofs.table.below_units.Statement.{statement}
 use Rattle.exchange.proofs.table.below_units.Tie as tie
 
@@ -29,14 +31,14 @@ returns c =
     let d = c .before .before .before .before in
     rows-refused _ _ _ _ (c .refused .ensures) (c .before .before .if1 .taken) _ _ _ _ (λ t k. d .read-data .ensures .stop t _ k (c .before .before .if1 .taken))
 
-add-tail : tie.Need-add-tail
-add-tail c = search needs
+add-free-lines : tie.Need-add-free-lines
+add-free-lines c = search needs
 
-add-tail-2 : tie.Need-add-tail-2
-add-tail-2 c = search needs
+add-free-lines-2 : tie.Need-add-free-lines-2
+add-free-lines-2 c = search needs
 
-tail-requires : tie.Need-tail-requires
-tail-requires c κs =
+free-lines-requires : tie.Need-free-lines-requires
+free-lines-requires c κs =
     let d = c .before .before .before in
     let w = d .read-data .ensures in
     let i = w .inside (c .before .if1 .left) in
@@ -50,7 +52,7 @@ returns-2 c =
     let a = c .before .before .before in
     let d = a .before .before .before .before in
     rows-refused _ _ _ _ (c .refused2 .ensures) (c .before .if2 .taken) _ _ _ _
-    (λ t k. d .read-data .ensures .on t _ k (a .before .before .if1 .left) ∙ a .tail .ensures .stop t _ (c .before .if2 .taken))
+    (λ t k. d .read-data .ensures .on t _ k (a .before .before .if1 .left) ∙ a .free-lines .ensures .stop (after t _) ended (c .before .if2 .taken))
 
 returns-3 : tie.Need-returns-3
 returns-3 c =
@@ -59,7 +61,7 @@ returns-3 c =
     let z = a .before .before .if1 .left in (
       record {
         stop = λ t k y. absurd (y refl);
-        on = λ t k y. d .read-data .ensures .on t _ k z ∙ a .tail .ensures .on t _ (c .if2 .left);
+        on = λ t k y. d .read-data .ensures .on t _ k z ∙ after-all _ _ _ _ (a .free-lines .ensures) (c .if2 .left) t _;
         at = λ y. refl;
       },
       λ y. record {
@@ -85,9 +87,9 @@ below-units-spec =
     add-refused
     refused-requires
     returns
-    add-tail
-    add-tail-2
-    tail-requires
+    add-free-lines
+    add-free-lines-2
+    free-lines-requires
     refused-requires-2
     returns-2
     returns-3)
