@@ -13,8 +13,9 @@ use Rattle.exchange.specs.Columns.{Sort, bottle, ctd, kindsOf}
 use Rattle.exchange.specs.Places.{Table, accepted, refused, outcomeOf}
 use Rattle.exchange.specs.Profiles.{missingInRows, keyOf, runCount}
 use Rattle.exchange.specs.Answers.{rowsIn, missingOf, profilesBy, kindBy, checkedBy, checkedOf}
-use Rattle.exchange.specs.Inner.Walks.{rowsFrom, sortOf, TableRead}
-use Rattle.exchange.specs.Inner.Table.{FileRead}
+use Rattle.exchange.specs.Inner.Rows.{rowsFrom}
+use Rattle.exchange.specs.Inner.Top.{sortOf}
+use Rattle.exchange.specs.Inner.Table.{FileRead, TableRead}
 
 map-drop : (n : ℕ) (ls : List (List ℕ)) → map (pieces 44) (drop n ls) ≡ drop n (map (pieces 44) ls)
 map-drop zero ls = refl

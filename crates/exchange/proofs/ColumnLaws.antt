@@ -23,12 +23,12 @@ use Rattle.exchange.specs.declared.names.NameFault.the-variants.{Clean, 
 use Rattle.exchange.specs.Faults.{Fault, clean, breaks, _then_, unless, member, hasAll, placeIn, firstOf}
 use Rattle.exchange.specs.Headers.{stationNames}
 use Rattle.exchange.specs.Columns.{Sort, ctd, isFlag, parameterOf, hasParameter, requiredNames, namesOf, kindOfName, flagFrom, flagsOf, nameRules, flagRules}
-use Rattle.exchange.specs.Inner.Faults.{nameFault, flagFault, namesLineFault}
+use Rattle.exchange.specs.Inner.Faults.{nameFault, flagFault, namesLineFault, asFault}
 use Rattle.exchange.specs.declared.columns.Cells.{Cells}
 use Rattle.exchange.specs.declared.columns.Columns.{Columns}
-use Rattle.exchange.specs.Inner.Walks.{textIn, namesAt, asFault, sortFor, ColumnsRead}
-use Rattle.exchange.specs.Inner.Names.{faultIn}
-use Rattle.exchange.specs.Inner.Columns.{startOf, Placed, CellsFound, KindsRead, parameterPlace}
+use Rattle.exchange.specs.Inner.Top.{sortFor}
+use Rattle.exchange.specs.Inner.Names.{faultIn, textIn, namesAt}
+use Rattle.exchange.specs.Inner.Columns.{startOf, Placed, CellsFound, KindsRead, parameterPlace, ColumnsRead}
 use Rattle.exchange.proofs.NameLaws.{names-length, name-given, Within, fault-within, place-test, place-member, place-within, place-name, clean-fresh, clean-unique}
 use Rattle.exchange.proofs.NamesLineLaws.{start-first, start-later, start-next}
 use Rattle.exchange.proofs.RuleLaws.{names-rules}

@@ -19,10 +19,11 @@ use Rattle.exchange.specs.Faults.{Fault, clean, breaks, firstOf}
 use Rattle.exchange.specs.Columns.{kindsOf}
 use Rattle.exchange.specs.Rows.{isEndData, boundRules}
 use Rattle.exchange.specs.Places.{Table, Place, rows, after, stopped, lastPieceRules, endRules, step, refused, run}
-use Rattle.exchange.specs.Inner.Faults.{lineFault, rowFault, boundFault}
+use Rattle.exchange.specs.Inner.Faults.{lineFault, rowFault, boundFault, asFault}
 use Rattle.exchange.specs.Profiles.{missingInRow, missingInRows, Key, keyOf, sameKey, bordersFrom, runCount}
-use Rattle.exchange.specs.Inner.Walks.{linesFrom, lineOf, asFault, textIn, rowsFrom, DataRead}
-use Rattle.exchange.specs.Inner.Rows.{spanText, keyAt, lineCells, RowRead, dataRefused, border, withRow, DataHeld, RowAdded, DataEnded, LineRead}
+use Rattle.exchange.specs.Inner.Lines.{linesFrom, lineOf}
+use Rattle.exchange.specs.Inner.Names.{textIn}
+use Rattle.exchange.specs.Inner.Rows.{spanText, keyAt, lineCells, RowRead, dataRefused, border, withRow, DataHeld, RowAdded, DataEnded, LineRead, rowsFrom, DataRead}
 use Rattle.exchange.proofs.RowLaws.{none-within, fault-number}
 use Rattle.exchange.proofs.RuleLaws.{end-step, row-step}
 use Rattle.exchange.proofs.RunLaws.{run-stopped, run-line, lines-end, lines-more, line-clean, line-broken, piece-take}

@@ -21,7 +21,7 @@ use Rattle.exchange.specs.Places.{Table, accepted, outcomeOf}
 use Rattle.exchange.specs.Inner.Faults.{cellFault, rowFault}
 use Rattle.exchange.specs.Grid.{starts, lineStart, cellSpan}
 use Rattle.exchange.specs.Profiles.{grid}
-use Rattle.exchange.specs.Inner.Walks.{linesFrom}
+use Rattle.exchange.specs.Inner.Lines.{linesFrom}
 use Rattle.exchange.proofs.RunLaws.{lines-more, lines-cut, line-feed}
 use Rattle.exchange.proofs.GridWalkLaws.{span-first, span-more}
 use Rattle.exchange.proofs.AcceptLaws.{RowKept, rows-kept}

@@ -25,9 +25,10 @@ use Rattle.exchange.specs.declared.headers.Header.{Header}
 use Rattle.exchange.specs.Faults.{Fault, clean, breaks, _then_, unless, kindFault, member, placeIn, firstOf}
 use Rattle.exchange.specs.LineRules.{lineTooLong, lineRules, byteRules}
 use Rattle.exchange.specs.Headers.{Header as FileHeader, headerOf, rawName, nameOf, valueOf, namesIn, headerNameRule, countIn, headersSaid, headerKind, headerRules}
-use Rattle.exchange.specs.Inner.Faults.{lineFault, headerFault}
-use Rattle.exchange.specs.Inner.Walks.{lineFaultAt, lineFor, lineOf, asFault, textIn, namesAt, headersAt}
-use Rattle.exchange.specs.Inner.Headers.{Parted, namedFaultAt, headerFaultAt, HeaderRead}
+use Rattle.exchange.specs.Inner.Faults.{lineFault, headerFault, asFault}
+use Rattle.exchange.specs.Inner.Lines.{lineFaultAt, lineFor, lineOf}
+use Rattle.exchange.specs.Inner.Names.{textIn, namesAt}
+use Rattle.exchange.specs.Inner.Headers.{Parted, namedFaultAt, headerFaultAt, HeaderRead, headersAt}
 use Rattle.exchange.proofs.NameLaws.{place-member}
 use Rattle.exchange.proofs.RuleLaws.{then-none}
 use Rattle.exchange.proofs.RunLaws.{piece-in, piece-take, line-feed, line-clean}

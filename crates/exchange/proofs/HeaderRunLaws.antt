@@ -17,8 +17,9 @@ use Rattle.exchange.specs.Columns.{ctd}
 use Rattle.exchange.specs.Headers.{Header as FileHeader, namesIn, headerNameRule, headersSaid, stationNames, firstHeaderRules, lastHeaderRules}
 use Rattle.exchange.specs.Places.{Place, comments, headers, names, stopped, isComment, lastPieceRules, endRules, stopAt, step, Outcome, refused, last, run}
 use Rattle.exchange.specs.Inner.Faults.{lineFault, firstHeaderFault}
-use Rattle.exchange.specs.Inner.Walks.{linesFrom, StartsAt, lineFaultAt, lineFor, lineOf, namesAt, headersAt, HeadersRead}
-use Rattle.exchange.specs.Inner.Headers.{Parted, namedFaultAt, headerFaultAt, HeaderRead, HeadersPlaced}
+use Rattle.exchange.specs.Inner.Lines.{linesFrom, StartsAt, lineFaultAt, lineFor, lineOf}
+use Rattle.exchange.specs.Inner.Names.{namesAt}
+use Rattle.exchange.specs.Inner.Headers.{Parted, namedFaultAt, headerFaultAt, HeaderRead, HeadersPlaced, headersAt, HeadersRead}
 use Rattle.exchange.proofs.RuleLaws.{then-none, afterHeader, first-header-step, header-step, Going, faultOutcome}
 use Rattle.exchange.proofs.RunLaws.{run-stopped, run-line, lines-end, line-clean, line-broken-here, starts-next}
 use Rattle.exchange.proofs.HeaderLaws.{breaks-clean, fault-clean, fault-broken, then-clean, then-first, then-second, line-zero, zero-line, headers-names, headers-more}

@@ -20,8 +20,7 @@ use Rattle.exchange.specs.declared.lines.Line.{Line}
 use Rattle.exchange.specs.Faults.{clean, breaks, _then_, firstOf}
 use Rattle.exchange.specs.LineRules.{foundFault, lineRules, byteRules, unendedRules}
 use Rattle.exchange.specs.Inner.Faults.{byteFault, lineFault, unendedFault}
-use Rattle.exchange.specs.Inner.Lines.{isPlain}
-use Rattle.exchange.specs.Inner.Walks.{lineFaultAt, lineFor, lineOf}
+use Rattle.exchange.specs.Inner.Lines.{isPlain, lineFaultAt, lineFor, lineOf}
 use Rattle.exchange.proofs.RunLaws.{piece-take}
 
 -- ---- runs of plain bytes

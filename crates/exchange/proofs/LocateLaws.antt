@@ -16,9 +16,9 @@ use Rattle.text.proofs.SpaceLaws.{span-bytes}
 use Rattle.exchange.specs.declared.cells.Cell.{Cell}
 use Rattle.exchange.specs.declared.Located.{Located}
 use Rattle.exchange.specs.Columns.{namesOf}
-use Rattle.exchange.specs.Grid.{spanIn, cellSpan}
-use Rattle.exchange.specs.Inner.Walks.{textIn}
-use Rattle.exchange.specs.Located.{nowhere, locatedBy, locatedOf}
+use Rattle.exchange.specs.Grid.{nowhere, spanIn, cellSpan}
+use Rattle.exchange.specs.Inner.Names.{textIn}
+use Rattle.exchange.specs.Located.{locatedBy, locatedOf}
 use Rattle.exchange.specs.Inner.Cells.{CellRead, AskedRead}
 use Rattle.exchange.proofs.NamesLineLaws.{ends-stop}
 use Rattle.exchange.proofs.GridWalkLaws.{cell-slice}

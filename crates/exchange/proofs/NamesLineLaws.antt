@@ -16,7 +16,7 @@ use Rattle.text.specs.Scans.{Stop}
 use Rattle.text.proofs.CellLaws.{line-in, line-end, next-from, next-within, next-parts, pieces-last, pieces-more}
 use Rattle.text.proofs.SpaceLaws.{span-bytes}
 use Rattle.exchange.specs.Columns.{namesOf}
-use Rattle.exchange.specs.Inner.Walks.{textIn, namesAt}
+use Rattle.exchange.specs.Inner.Names.{textIn, namesAt}
 use Rattle.exchange.specs.Grid.{starts}
 use Rattle.exchange.specs.Inner.Rows.{lineCells}
 use Rattle.exchange.specs.Inner.Columns.{startOf, Ends, Placed}

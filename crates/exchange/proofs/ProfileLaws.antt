@@ -17,10 +17,10 @@ use Rattle.exchange.specs.declared.rows.Row.{Row}
 use Rattle.exchange.specs.Faults.{clean}
 use Rattle.exchange.specs.Columns.{kindsOf}
 use Rattle.exchange.specs.Places.{Table}
-use Rattle.exchange.specs.Inner.Faults.{rowFault}
+use Rattle.exchange.specs.Inner.Faults.{rowFault, asFault}
 use Rattle.exchange.specs.Profiles.{Key, keyOf, sameKey, labelsFrom, labels, rowsOf}
-use Rattle.exchange.specs.Inner.Walks.{linesFrom, rowsFrom, asFault}
-use Rattle.exchange.specs.Inner.Rows.{keyAt, KeysWithin, lineCells, RowRead}
+use Rattle.exchange.specs.Inner.Lines.{linesFrom}
+use Rattle.exchange.specs.Inner.Rows.{keyAt, KeysWithin, lineCells, RowRead, rowsFrom}
 use Rattle.exchange.specs.Inner.Profiles.{RowLines, none, more, withNoted, RunOf, RunRead}
 use Rattle.exchange.proofs.RunLaws.{lines-more, line-feed}
 use Rattle.exchange.proofs.HeaderLaws.{breaks-clean}

@@ -27,9 +27,10 @@ use Rattle.exchange.specs.Grid.{starts, lineStart, spanIn}
 use Rattle.exchange.specs.Profiles.{Key, keyOf, labels, rowsOf}
 use Rattle.exchange.specs.Answers.{rowsIn, rowCells}
 use Rattle.exchange.specs.Records.{Value, given, absent, columnValue, valueBy, stationValue, labelsBy, profileRows, numberIn, castTime, noProfile, recordOf, profileBy, profileOf, Stationed, stands, refusedBy, stationedAt, stationedIn, stationedBy, stationedOf, stationPlace, stationRefusal, noPlace, stationAnswer}
-use Rattle.exchange.specs.Inner.Walks.{linesFrom, rowsFrom, sortOf, sortFor, TableRead}
-use Rattle.exchange.specs.Inner.Rows.{lineCells}
-use Rattle.exchange.specs.Inner.Table.{FileRead}
+use Rattle.exchange.specs.Inner.Lines.{linesFrom}
+use Rattle.exchange.specs.Inner.Top.{sortOf, sortFor}
+use Rattle.exchange.specs.Inner.Rows.{lineCells, rowsFrom}
+use Rattle.exchange.specs.Inner.Table.{FileRead, TableRead}
 use Rattle.exchange.specs.Inner.Profiles.{RowLines, RunOf, RunRead}
 use Rattle.exchange.specs.Inner.Values.{ValueRead, HeadersStand, HeaderFound, valueIn, RunFound, ValuesIn, ProfileFound, ProfileRead}
 use Rattle.exchange.proofs.AcceptLaws.{RowKept, rows-kept, accepted-table}

@@ -21,10 +21,9 @@ use Rattle.text.proofs.JudgeLaws.{judged-at, judged-number}
 use Rattle.text.proofs.SpaceLaws.{span-bytes}
 use Rattle.exchange.specs.Faults.{clean, breaks, kindFault, firstOf}
 use Rattle.exchange.specs.Profiles.{missingInRow, cellOfKind, keyOf}
-use Rattle.exchange.specs.Inner.Walks.{asFault}
 use Rattle.exchange.specs.declared.rows.Row.{Row}
 use Rattle.exchange.specs.Rows.{cellRules, rowRules}
-use Rattle.exchange.specs.Inner.Faults.{cellFault, rowFault}
+use Rattle.exchange.specs.Inner.Faults.{cellFault, rowFault, asFault}
 use Rattle.exchange.specs.Inner.Rows.{spanText, keyAt, KeysWithin, lineCells, rowRefused, RowRead}
 use Rattle.exchange.proofs.GridWalkLaws.{cell-slice}
 

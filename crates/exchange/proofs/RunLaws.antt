@@ -18,7 +18,7 @@ use Rattle.exchange.specs.Faults.{Fault, clean, breaks, _then_, unless, 
 use Rattle.exchange.specs.LineRules.{foundFault, lineTooLong, lineRules, byteRules, unendedRules}
 use Rattle.exchange.specs.Places.{Place, stopped, rulesAt, endRules, nextPlace, step, refused, run}
 use Rattle.exchange.specs.Inner.Faults.{lineFault, unendedFault}
-use Rattle.exchange.specs.Inner.Walks.{linesFrom, StartsAt, lineFaultAt, lineFor, lineOf}
+use Rattle.exchange.specs.Inner.Lines.{linesFrom, StartsAt, lineFaultAt, lineFor, lineOf}
 use Rattle.exchange.proofs.RuleLaws.{Going, faultOutcome, last-cut}
 
 -- after a broken rule nothing changes

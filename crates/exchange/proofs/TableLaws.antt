@@ -18,10 +18,13 @@ use Rattle.exchange.specs.Faults.{clean, breaks, firstOf}
 use Rattle.exchange.specs.Headers.{Header}
 use Rattle.exchange.specs.Columns.{Sort, bottle, ctd, namesOf, kindOfName, kindsOf}
 use Rattle.exchange.specs.Places.{Table, Place, comments, names, units, rows, after, stopped, isComment, lastPieceRules, endRules, Outcome, accepted, refused, run, outcomeOf}
-use Rattle.exchange.specs.Inner.Faults.{namesLineFault}
+use Rattle.exchange.specs.Inner.Faults.{namesLineFault, asFault}
 use Rattle.exchange.specs.Profiles.{missingInRows, keyOf, runCount}
-use Rattle.exchange.specs.Inner.Walks.{linesFrom, rowsFrom, StartsAt, lineOf, asFault, sortOf, sortFor, ended, FreeRead, ColumnsRead, TableRead}
-use Rattle.exchange.specs.Inner.Table.{Told, RowsRead, UnitsRead, tableOf, NamesRead, FileRead}
+use Rattle.exchange.specs.Inner.Lines.{linesFrom, StartsAt, lineOf}
+use Rattle.exchange.specs.Inner.Rows.{rowsFrom}
+use Rattle.exchange.specs.Inner.Top.{sortOf, sortFor, ended, FreeRead}
+use Rattle.exchange.specs.Inner.Columns.{ColumnsRead}
+use Rattle.exchange.specs.Inner.Table.{Told, RowsRead, UnitsRead, tableOf, NamesRead, FileRead, TableRead}
 use Rattle.exchange.specs.Inner.Headers.{HeaderLines}
 use Rattle.exchange.specs.Records.{headersLine}
 use Rattle.exchange.proofs.AcceptLaws.{accepted-table}

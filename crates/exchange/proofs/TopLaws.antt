@@ -18,7 +18,8 @@ use Rattle.exchange.specs.Faults.{clean, breaks, _then_, firstOf, unless
 use Rattle.exchange.specs.Columns.{bottle, ctd}
 use Rattle.exchange.specs.Places.{Place, first, comments, stopped, isMark, isBottle, isCtd, firstLineRules, isComment, lastPieceRules, endRules, stopAt, step, refused, run, outcomeOf}
 use Rattle.exchange.specs.Inner.Faults.{lineFault}
-use Rattle.exchange.specs.Inner.Walks.{linesFrom, StartsAt, lineOf, sortOf, FirstRead, FreePlace, commented, ended}
+use Rattle.exchange.specs.Inner.Lines.{linesFrom, StartsAt, lineOf}
+use Rattle.exchange.specs.Inner.Top.{sortOf, FirstRead, FreePlace, commented, ended}
 use Rattle.exchange.proofs.GridWalkLaws.{cell-slice}
 use Rattle.exchange.proofs.RuleLaws.{first-step, comment-step, after-step, Going}
 use Rattle.exchange.proofs.RunLaws.{piece-take, run-stopped, run-line, line-clean, line-broken, line-broken-here, line-rules, run-on, starts-next}

@@ -25,7 +25,7 @@ use Rattle.exchange.specs.Headers.{Header, headerOf, rawName, nameOf, va
 use Rattle.exchange.specs.Columns.{namesOf}
 use Rattle.exchange.specs.Grid.{cellSpan}
 use Rattle.exchange.specs.Records.{Value, given, absent, headerPlace, headerValue, numberIn, timeIn, castTime}
-use Rattle.exchange.specs.Inner.Walks.{textIn, namesAt}
+use Rattle.exchange.specs.Inner.Names.{textIn, namesAt}
 use Rattle.exchange.specs.Inner.Headers.{Parted, LineStands, HeaderLines, none, more}
 use Rattle.exchange.specs.Inner.Columns.{CellsFound}
 use Rattle.exchange.specs.Inner.Rows.{lineCells}

@@ -20,7 +20,7 @@ use Rattle.exchange.specs.declared.Flagged.{Flagged}
 use Rattle.exchange.specs.declared.CellPlace.{CellPlace}
 use Rattle.exchange.specs.Columns.{Sort, bottle, ctd, kindsOf}
 use Rattle.exchange.specs.Places.{Table, Outcome, accepted, refused, outcomeOf}
-use Rattle.exchange.specs.Grid.{starts, spanIn}
+use Rattle.exchange.specs.Grid.{starts, nowhere, spanIn}
 use Rattle.exchange.specs.Profiles.{grid, missingInRows, keyOf, runCount}
 
 -- the rows of an accepted file: the n data lines after those that stand before the first
@@ -39,6 +39,7 @@ profilesBy ctd n = 1
 abbrev pub profilesOf : Table → ℕ → List ℕ → ℕ
 profilesOf t n f = profilesBy (t .sort) (runCount (map (keyOf (kindsOf (t .names))) (rowsIn t n f)))
 
+-- the kind of file in the check's answer
 abbrev pub kindBy : Sort → FileKind
 kindBy bottle = Bottle
 kindBy ctd = Ctd
@@ -95,7 +96,7 @@ trimmedPlace f p = trimSpan f (p .start) (p .start + p .len)
 
 abbrev pub cellBy : List ℕ → ℕ → ℕ → Asked → Span
 cellBy f r c (found t) = trimmedPlace f (cellPlace t f r c)
-cellBy f r c (missed a b d) = record { start = 0; len = 0 }
+cellBy f r c (missed a b d) = nowhere
 
 unfoldable pub cellOf : List ℕ → ℕ → ℕ → Span
 cellOf f r c = cellBy f r c (askedOf f r c)

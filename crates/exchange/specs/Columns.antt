@@ -18,7 +18,7 @@ use Rattle.exchange.specs.Headers.{stationNames}
 pub data Sort : Type 0 where
   bottle ctd : Sort
 
--- the cells from the one at column c, after the earlier names: 11, 10, 9
+-- the names from the cell at column c on, after the earlier names: 11, 10, 9 of each
 unfoldable pub nameRules : ℕ → List (List ℕ) → List (List ℕ) → List Fault
 nameRules c earlier [] = []
 nameRules c earlier (t ∷ ts) =
@@ -38,7 +38,7 @@ parameterOf n = take (parameterLength n) n
 unfoldable pub hasParameter : List (List ℕ) → List ℕ → Bool
 hasParameter ns n = not (isFlag (parameterOf n)) && member (parameterOf n) ns
 
--- 12 from the left, among the names ns
+-- 12 from the left, from the cell at column c on, the line's names being ns
 unfoldable pub flagRules : ℕ → List (List ℕ) → List (List ℕ) → List Fault
 flagRules c ns [] = []
 flagRules c ns (t ∷ ts) = unless (not (isFlag (trim t)) || hasParameter ns (trim t)) 12 c ∷ flagRules (c + length t + 1) ns ts
@@ -48,9 +48,11 @@ abbrev pub requiredNames : Sort → List (List ℕ)
 requiredNames bottle = stationNames
 requiredNames ctd = bytes "CTDPRS" ∷ []
 
+-- the names of the line
 abbrev pub namesOf : List ℕ → List (List ℕ)
 namesOf x = map trim (pieces 44 x)
 
+-- the names line of a bottle or a CTD file
 unfoldable pub namesLineRules : Sort → List ℕ → List Fault
 namesLineRules k x = nameRules 1 [] (pieces 44 x) ++ flagRules 1 (namesOf x) (pieces 44 x) ++ unless (hasAll (requiredNames k) (namesOf x)) 13 1 ∷ []
 

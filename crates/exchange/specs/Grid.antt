@@ -17,9 +17,13 @@ starts (w ∷ ws) (suc k) = w + 1 + starts ws k
 unfoldable pub lineStart : List ℕ → ℕ → ℕ → ℕ
 lineStart s i k = cond (ltb k (length (pieces 10 (drop i s)))) (i + starts (map length (pieces 10 (drop i s))) k) (length s)
 
--- the place of cell k, from 0, of the cells ts, the first of which starts at i, with its spaces; the empty place at the start of the file where there is none
+-- the place of nothing: the empty part at the file's start
+abbrev pub nowhere : Span
+nowhere = record { start = 0; len = 0 }
+
+-- the place of cell k, from 0, of the cells ts, the first of which starts at i, with its spaces; nowhere where there is none
 unfoldable pub spanIn : ℕ → List (List ℕ) → ℕ → Span
-spanIn i ts k = cond (ltb k (length ts)) (record { start = i + starts (map length ts) k; len = length (getD ts k []) }) (record { start = 0; len = 0 })
+spanIn i ts k = cond (ltb k (length ts)) (record { start = i + starts (map length ts) k; len = length (getD ts k []) }) nowhere
 
 -- of the line that starts at i
 abbrev pub cellSpan : List ℕ → ℕ → ℕ → Span

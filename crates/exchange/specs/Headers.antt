@@ -14,7 +14,7 @@ use Rattle.text.specs.Judge.{measured, free, kindOf, judge, wholeOf, unlessBlan
 use Rattle.text.specs.Catalogue.{codeOf, names, kinds, kindIn}
 use Rattle.exchange.specs.Faults.{Fault, unless, kindFault, member, hasAll}
 
--- what stands before the first =, and after it
+-- what stands before the first =, with its spaces and without; what stands after it, with its spaces
 abbrev pub rawName : List ℕ → List ℕ
 rawName x = firstPiece 61 x
 
@@ -24,7 +24,7 @@ nameOf x = trim (rawName x)
 abbrev pub valueOf : List ℕ → List ℕ
 valueOf x = drop (length (rawName x) + 1) x
 
--- a header: its name, and what stands after its = with the spaces
+-- a header: its name, and what stands after its =, with the spaces
 pub record Header : Type 0 where
   pub name : List ℕ
   pub value : List ℕ
@@ -49,6 +49,7 @@ countIn (good m v d) = cond (leb v 64) v 0
 unfoldable pub headersSaid : List ℕ → ℕ
 headersSaid x = cond (equal (nameOf x) (bytes "NUMBER_HEADERS")) (countIn (unlessBlank (wholeOf 2) (trim (valueOf x)))) 0
 
+-- the first header: 8, for its name and for what it says
 unfoldable pub firstHeaderRules : List ℕ → List Fault
 firstHeaderRules x = headerNameRule x ∷ unless (ltb 0 (headersSaid x)) 8 1 ∷ []
 
@@ -56,7 +57,7 @@ firstHeaderRules x = headerNameRule x ∷ unless (ltb 0 (headersSaid x)) 8 1 ∷
 unfoldable pub headerKind : List ℕ → ℕ
 headerKind n = cond (eqb (kindIn names kinds n) (codeOf measured)) (codeOf free) (kindIn names kinds n)
 
--- a later header, after those of the given names; a value is shown just after its =
+-- a later header, after those of the earlier names: 8, 9, then 17, 16, 18; a value is shown just after its =
 unfoldable pub headerRules : List (List ℕ) → List ℕ → List Fault
 headerRules earlier x =
     headerNameRule x

@@ -2,12 +2,12 @@
 pub mod Faults
 pub mod Lines
 pub mod Names
-pub mod Walks
+pub mod Top
 pub mod Headers
 pub mod Columns
 pub mod Grid
 pub mod Rows
-pub mod Profiles
-pub mod Values
 pub mod Table
 pub mod Cells
+pub mod Profiles
+pub mod Values

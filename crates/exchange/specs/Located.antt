@@ -12,6 +12,7 @@ use Rattle.text.specs.Catalogue.{codeOf}
 use Rattle.exchange.specs.declared.Located.{Located}
 use Rattle.exchange.specs.Columns.{flagsOf}
 use Rattle.exchange.specs.Places.{Table, Outcome, accepted, refused, outcomeOf}
+use Rattle.exchange.specs.Grid.{nowhere}
 use Rattle.exchange.specs.Answers.{Asked, found, missed, askedOf, kindAt, cellPlace}
 
 -- the name of column c, counted from 1; whether it is measured; the column of its flags, 0 where it has none
@@ -26,10 +27,6 @@ flagColumn t c = getD (flagsOf (t .names)) (c - 1) 0
 
 abbrev pub hasFlag : Table → ℕ → Bool
 hasFlag t c = ltb 0 (flagColumn t c)
-
--- the place of nothing: the empty part at the file's start
-abbrev pub nowhere : Span
-nowhere = record { start = 0; len = 0 }
 
 -- the cell of row r in the flag column of column c
 abbrev pub flagPlace : Table → List ℕ → ℕ → ℕ → Span

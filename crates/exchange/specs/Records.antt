@@ -19,10 +19,9 @@ use Rattle.exchange.specs.Faults.{placeIn}
 use Rattle.exchange.specs.Headers.{rawName, valueOf, Header}
 use Rattle.exchange.specs.Columns.{Sort, bottle, ctd, kindsOf}
 use Rattle.exchange.specs.Places.{Table, Outcome, accepted, refused, outcomeOf}
-use Rattle.exchange.specs.Grid.{starts}
+use Rattle.exchange.specs.Grid.{starts, nowhere}
 use Rattle.exchange.specs.Profiles.{Key, keyOf, labels, rowsOf}
 use Rattle.exchange.specs.Answers.{rowsIn, cellText, cellPlace, trimmedPlace}
-use Rattle.exchange.specs.Located.{nowhere}
 
 -- ---- the value of a name: its text with its spaces, and where it stands; or there is none
 pub data Value : Type 0 where

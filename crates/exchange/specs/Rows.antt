@@ -10,12 +10,13 @@ use Rattle.text.specs.Judge.{kindOf, judge}
 use Rattle.exchange.specs.Faults.{Fault, unless, kindFault}
 use Rattle.exchange.specs.Columns.{kindsOf}
 
--- the cells from the one at column c
+-- the cells from the one at column c on, by their columns' kinds: 17, 16 or 18 of each
 unfoldable pub cellRules : ℕ → List ℕ → List (List ℕ) → List Fault
 cellRules c [] ts = []
 cellRules c (k ∷ ks) [] = []
 cellRules c (k ∷ ks) (t ∷ ts) = kindFault (judge (kindOf k) t) c ∷ cellRules (c + length t + 1) ks ts
 
+-- a row's cells, by their columns' kinds: 15 comes first
 unfoldable pub rowRules : List ℕ → List (List ℕ) → List Fault
 rowRules ks ts = unless (eqb (length ts) (length ks)) 15 1 ∷ cellRules 1 ks ts
 
@@ -23,7 +24,7 @@ rowRules ks ts = unless (eqb (length ts) (length ks)) 15 1 ∷ cellRules 1 ks ts
 unfoldable pub boundRules : List (List ℕ) → List (List ℕ) → List Fault
 boundRules ns ts = []
 
--- a data line after n others
+-- a data line after n others: 20, 15, then cell by cell
 unfoldable pub dataLineRules : ℕ → List (List ℕ) → List (List ℕ) → List Fault
 dataLineRules n ns ts = unless (ltb n 1000000) 20 1 ∷ rowRules (kindsOf ns) ts ++ boundRules ns ts
 

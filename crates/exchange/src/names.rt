@@ -5,8 +5,7 @@ ghost use mathlib.Core.List.{[]};
 ghost use lib.ListN.{length, getD};
 ghost use Rattle.exchange.specs.Faults.{hasAll, placeIn};
 ghost use Rattle.exchange.specs.Headers.{stationNames};
-ghost use Rattle.exchange.specs.Inner.Names.{faultIn};
-ghost use Rattle.exchange.specs.Inner.Walks.{textIn, namesAt};
+ghost use Rattle.exchange.specs.Inner.Names.{faultIn, textIn, namesAt};
 
 // The first fault of a list of names.
 pub enum NameFault {

@@ -2,7 +2,7 @@
 ghost use mathlib.Core.Path.{_≡_};
 ghost use Prim.Native.Nat.{_+_, _≤_, _<_};
 ghost use lib.ListN.{length};
-ghost use Rattle.exchange.specs.Inner.Walks.{sortOf};
+ghost use Rattle.exchange.specs.Inner.Top.{sortOf};
 ghost use Rattle.exchange.specs.Inner.Table.{kindsIn, Told, RowsRead, UnitsRead, NamesRead, FileRead};
 use crate::columns::Columns;
 use crate::columns::read_columns;

@@ -6,7 +6,7 @@ ghost use lib.ListN.{length};
 ghost use Rattle.text.specs.Cells.{lineAt};
 ghost use Rattle.text.specs.Scans.{Stop};
 ghost use Rattle.exchange.specs.Places.{isMark, isBottle, isCtd};
-ghost use Rattle.exchange.specs.Inner.Walks.{FirstRead, FreeRead};
+ghost use Rattle.exchange.specs.Inner.Top.{FirstRead, FreeRead};
 use crate::grid::cell_end;
 use crate::lines::line_at;
 use text::refusals;

@@ -7,11 +7,11 @@ use lib.ListN.{length, getD, take}
 use Rattle.text.specs.Cells.{lineAt, pieces}
 use Rattle.exchange.specs.declared.columns.Cells.{Cells}
 use Rattle.exchange.specs.declared.columns.Columns.{Columns}
-use Rattle.exchange.specs.Columns.{isFlag, namesOf, kindsOf, flagsOf}
+use Rattle.exchange.specs.Columns.{isFlag, namesOf, kindsOf, flagsOf, Sort}
 use Rattle.exchange.specs.Faults.{placeIn}
 use Rattle.exchange.specs.Grid.{starts}
-use Rattle.exchange.specs.Inner.Faults.{flagFault}
-use Rattle.exchange.specs.Inner.Walks.{namesAt, asFault}
+use Rattle.exchange.specs.Inner.Faults.{flagFault, namesLineFault, asFault}
+use Rattle.exchange.specs.Inner.Names.{namesAt}
 
 -- where piece k starts, the first starting at c
 unfoldable pub startOf : ℕ → List (List ℕ) → ℕ → ℕ
@@ -45,6 +45,14 @@ parameterPlace p ns = cond (isFlag p) (length ns) (placeIn p ns)
 -- rule 12 of the names line x, and its columns
 pub record KindsRead (x : List ℕ) (r : Columns) : Type 0 where
   pub fault : asFault (r .number) (r .column) ≡ flagFault 1 (namesOf x) (pieces 44 x)
+  pub many : r .number ≡ 0 → r .count ≡ length (namesOf x)
+  pub kinds : r .number ≡ 0 → take (r .count) (r .kinds) ≡ kindsOf (namesOf x)
+  pub flags : r .number ≡ 0 → take (r .count) (r .flags) ≡ flagsOf (namesOf x)
+
+-- all rules of the names line x, and its columns
+pub record ColumnsRead (k : Sort) (x : List ℕ) (r : Columns) : Type 0 where
+  pub fault : asFault (r .number) (r .column) ≡ namesLineFault k x
+  pub few : r .number ≡ 0 → r .count ≤ 256
   pub many : r .number ≡ 0 → r .count ≡ length (namesOf x)
   pub kinds : r .number ≡ 0 → take (r .count) (r .kinds) ≡ kindsOf (namesOf x)
   pub flags : r .number ≡ 0 → take (r .count) (r .flags) ≡ flagsOf (namesOf x)

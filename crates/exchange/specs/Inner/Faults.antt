@@ -1,8 +1,8 @@
 -- The first broken rule of each list, as the contracts of the code's inner functions say it. No promise of a public call cites them.
-use Prim.Native.Nat.{ℕ}
+use Prim.Native.Nat.{ℕ, zero, suc}
 use mathlib.Core.List.{List}
 use mathlib.Core.Bool.{Bool}
-use Rattle.exchange.specs.Faults.{Fault, firstOf}
+use Rattle.exchange.specs.Faults.{Fault, firstOf, clean, breaks}
 use Rattle.exchange.specs.LineRules.{byteRules, lineRules, unendedRules}
 use Rattle.exchange.specs.Headers.{firstHeaderRules, headerRules}
 use Rattle.exchange.specs.Columns.{Sort, nameRules, flagRules, namesLineRules}
@@ -40,3 +40,8 @@ rowFault ks ts = firstOf (rowRules ks ts)
 
 unfoldable pub boundFault : List (List ℕ) → List (List ℕ) → Fault
 boundFault ns ts = firstOf (boundRules ns ts)
+
+-- a number and a column as a fault, 0 being none
+abbrev pub asFault : ℕ → ℕ → Fault
+asFault zero c = clean
+asFault (suc n) c = breaks (suc n) c

@@ -1,5 +1,5 @@
 -- The words of the inner contracts of the headers' reading. No promise of a public call cites them.
-use Prim.Native.Nat.{ℕ, _+_, _-_, _≤_, _<_}
+use Prim.Native.Nat.{ℕ, _+_, _-_, _≤_, _<_, zero, suc}
 use mathlib.Core.Path.{_≡_}
 use mathlib.Core.Bool.{true}
 use mathlib.Core.List.{List, [], _∷_, map}
@@ -9,9 +9,12 @@ use Rattle.exchange.specs.declared.headers.Header.{Header}
 use Rattle.exchange.specs.declared.headers.Headers.{Headers}
 use Rattle.exchange.specs.Faults.{Fault, _then_}
 use Rattle.exchange.specs.Headers.{Header as FileHeader, headerOf, rawName, headerNameRule, headersSaid}
-use Rattle.exchange.specs.Inner.Faults.{headerFault}
 use Rattle.exchange.specs.Grid.{starts}
-use Rattle.exchange.specs.Inner.Walks.{StartsAt, lineFaultAt, asFault, headersAt}
+use Rattle.exchange.specs.Columns.{ctd}
+use Rattle.exchange.specs.Places.{comments, names, refused, run}
+use Rattle.exchange.specs.Inner.Faults.{headerFault, asFault}
+use Rattle.exchange.specs.Inner.Lines.{linesFrom, StartsAt, lineFaultAt}
+use Rattle.exchange.specs.Inner.Names.{textIn}
 
 -- the line that starts at i ends at e and has its first = at q
 pub record Parted (s : List ℕ) (i q e : ℕ) : Type 0 where
@@ -44,6 +47,20 @@ pub record Begun (s : List ℕ) (i l : ℕ) (h : Header) (n : ℕ) : Type 0 wher
   pub said : n ≡ headersSaid (lineAt s i)
   pub some : n ≡ 0 → ⊥
   pub most : n ≤ 64
+
+-- the headers by place: a value goes on after its = to the line's end
+unfoldable pub headersAt : List ℕ → ℕ → List ℕ → List ℕ → List FileHeader
+headersAt s zero bs es = []
+headersAt s (suc n) [] es = []
+headersAt s (suc n) (b ∷ bs) [] = []
+headersAt s (suc n) (b ∷ bs) (e ∷ es) = record { name = textIn s b e; value = lineAt s (e + 1) } ∷ headersAt s n bs es
+
+-- the headers read from place i on, which is line l
+pub record HeadersRead (s : List ℕ) (i l : ℕ) (r : Headers) : Type 0 where
+  pub stop : (r .number ≡ 0 → ⊥) → run l (comments ctd) (linesFrom s i) ≡ refused (r .number) (r .line) (r .column)
+  pub on : r .number ≡ 0 → run l (comments ctd) (linesFrom s i) ≡ run (r .line) (names ctd (headersAt s (r .count) (r .starts) (r .ends))) (linesFrom s (r .at))
+  pub inside : r .number ≡ 0 → (r .at ≤ length s) × (r .line ≤ r .at + 2) × (r .count ≤ 64)
+  pub counted : r .number ≡ 0 → 1 ≤ l → StartsAt s l i → (1 ≤ r .line) × StartsAt s (r .line) (r .at)
 
 -- line l, counted from 0, stands at i
 pub record LineStands (s : List ℕ) (l i : ℕ) : Type 0 where

@@ -9,10 +9,9 @@ use Rattle.text.specs.Cells.{lineAt}
 use Rattle.text.specs.Scans.{Stop}
 use Rattle.exchange.specs.declared.profiles.Run.{Run}
 use Rattle.exchange.specs.Faults.{clean}
-use Rattle.exchange.specs.Inner.Faults.{rowFault}
 use Rattle.exchange.specs.Profiles.{keyOf, labels, rowsOf}
-use Rattle.exchange.specs.Inner.Walks.{rowsFrom}
-use Rattle.exchange.specs.Inner.Rows.{lineCells}
+use Rattle.exchange.specs.Inner.Faults.{rowFault}
+use Rattle.exchange.specs.Inner.Rows.{lineCells, rowsFrom}
 
 -- from place i on stand n data lines that keep their rules
 pub data RowLines (s ks : List ℕ) : ℕ → ℕ → Type 0 where

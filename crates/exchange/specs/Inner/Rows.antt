@@ -1,9 +1,9 @@
 -- The words of the contracts of the data lines' inner functions. No promise of a public call cites them.
 use Prim.Native.Nat.{ℕ, _+_, _-_, _*_, _≤_, _<_}
 use mathlib.Core.Path.{_≡_}
-use mathlib.Core.List.{List, _∷_}
+use mathlib.Core.List.{List, _∷_, map}
 use mathlib.Core.Bool.{true, false, cond, _&&_}
-use lib.ListN.{length}
+use lib.ListN.{length, take}
 use lib.Dec.{ltb}
 use Rattle.text.specs.declared.Span.{Span}
 use Rattle.text.specs.declared.Keys.{Keys}
@@ -13,9 +13,10 @@ use Rattle.exchange.specs.declared.rows.Row.{Row}
 use Rattle.exchange.specs.declared.rows.Data.{Data}
 use Rattle.exchange.specs.Columns.{kindsOf}
 use Rattle.exchange.specs.Places.{Table, rows, after, refused, run}
-use Rattle.exchange.specs.Inner.Faults.{rowFault}
-use Rattle.exchange.specs.Profiles.{missingInRow, Key, keyOf, sameKey}
-use Rattle.exchange.specs.Inner.Walks.{linesFrom, asFault, textIn}
+use Rattle.exchange.specs.Profiles.{missingInRow, Key, keyOf, sameKey, missingInRows, runCount}
+use Rattle.exchange.specs.Inner.Faults.{rowFault, asFault}
+use Rattle.exchange.specs.Inner.Lines.{linesFrom}
+use Rattle.exchange.specs.Inner.Names.{textIn}
 
 -- ---- the keys of a row by place
 -- the trimmed text of a span, and the key that a row's keys stand for
@@ -105,3 +106,15 @@ pub record LineRead (s ks : List ℕ) (d r : Data) : Type 0 where
   pub ended : r .done ≡ true → DataEnded s ks d r
   pub added : r .done ≡ false → RowAdded s ks d r
   pub inside : r .number ≡ 0 → (d .at < r .at) × (r .at ≤ length s)
+
+-- ---- the data lines from place i on, by the columns' kinds
+abbrev pub rowsFrom : List ℕ → ℕ → ℕ → List (List (List ℕ))
+rowsFrom s i n = take n (map (pieces 44) (linesFrom s i))
+
+pub record DataRead (s ks : List ℕ) (i : ℕ) (r : Data) : Type 0 where
+  pub stop : (t : Table) (l : ℕ) → kindsOf (t .names) ≡ ks → (r .number ≡ 0 → ⊥) → run l (rows t 0) (linesFrom s i) ≡ refused (r .number) (l + r .rows) (r .column)
+  pub on : (t : Table) (l : ℕ) → kindsOf (t .names) ≡ ks → r .number ≡ 0 → run l (rows t 0) (linesFrom s i) ≡ run (l + r .rows + 1) (after t (r .rows)) (linesFrom s (r .at))
+  pub inside : r .number ≡ 0 → (i ≤ r .at) × (r .at ≤ length s)
+  pub few : r .rows ≤ 1000000
+  pub missing : r .number ≡ 0 → r .missing ≡ missingInRows ks (rowsFrom s i (r .rows))
+  pub profiles : r .number ≡ 0 → r .profiles ≡ runCount (map (keyOf ks) (rowsFrom s i (r .rows)))

@@ -7,12 +7,25 @@ use Rattle.text.specs.Cells.{lineAt}
 use Rattle.exchange.specs.declared.columns.Columns.{Columns}
 use Rattle.exchange.specs.declared.table.FileTable.{FileTable}
 use Rattle.exchange.specs.Headers.{Header}
-use Rattle.exchange.specs.Columns.{Sort, ctd, namesOf, kindsOf}
+use Rattle.exchange.specs.Columns.{Sort, ctd, namesOf, kindsOf, flagsOf}
 use Rattle.exchange.specs.Places.{Table, names, units, rows, accepted, refused, run, outcomeOf}
 use Rattle.exchange.specs.Profiles.{missingInRows, keyOf, runCount}
-use Rattle.exchange.specs.Inner.Walks.{linesFrom, rowsFrom, StartsAt, sortOf, TableRead}
-use Rattle.exchange.specs.Inner.Headers.{HeaderLines}
 use Rattle.exchange.specs.Records.{headersLine}
+use Rattle.exchange.specs.Inner.Headers.{HeaderLines}
+use Rattle.exchange.specs.Inner.Lines.{linesFrom, StartsAt}
+use Rattle.exchange.specs.Inner.Top.{sortOf}
+use Rattle.exchange.specs.Inner.Rows.{rowsFrom}
+
+-- what the code's table v says of the table t
+pub record TableRead (s : List ℕ) (t : Table) (v : FileTable) : Type 0 where
+  pub few : v .columns ≤ 256
+  pub many : v .columns ≡ length (t .names)
+  pub kinds : take (v .columns) (v .kinds) ≡ kindsOf (t .names)
+  pub flags : take (v .columns) (v .flags) ≡ flagsOf (t .names)
+  pub inside : v .data ≤ length s
+  pub starts : StartsAt s (t .line + 1) (v .data)
+  pub missing : v .missing ≡ missingInRows (kindsOf (t .names)) (rowsFrom s (v .data) (v .rows))
+  pub profiles : v .profiles ≡ runCount (map (keyOf (kindsOf (t .names))) (rowsFrom s (v .data) (v .rows)))
 
 -- what the code's table says beside the run, by the columns c of the names line
 abbrev pub kindsIn : Columns → List ℕ

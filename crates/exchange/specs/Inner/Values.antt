@@ -20,11 +20,11 @@ use Rattle.exchange.specs.Places.{Table, accepted, outcomeOf}
 use Rattle.exchange.specs.Grid.{starts, cellSpan}
 use Rattle.exchange.specs.Answers.{rowCells}
 use Rattle.exchange.specs.Records.{Value, given, absent, headerValue, headersLine, stationValue, profileRows, numberIn, castTime, noProfile, recordOf, profileOf, refusedBy, stationedAt, stationedOf}
-use Rattle.exchange.specs.Inner.Walks.{sortOf}
 use Rattle.exchange.specs.Inner.Headers.{HeaderLines}
 use Rattle.exchange.specs.Inner.Columns.{Ends}
 use Rattle.exchange.specs.Inner.Rows.{lineCells}
 use Rattle.exchange.specs.Inner.Profiles.{RunOf}
+use Rattle.exchange.specs.Inner.Top.{sortOf}
 
 -- ---- a value by place
 pub record ValueRead (s : List ℕ) (x : Value) (r : ValueAt) : Type 0 where

@@ -1,7 +1,7 @@
 use mathlib.Core.Path.{ap, _∙_}
 use native.Mathlib.Omega.{arith}
 use Rattle.exchange.specs.Headers.{headerKind}
-use Rattle.exchange.specs.Inner.Walks.{namesAt}
+use Rattle.exchange.specs.Inner.Names.{namesAt}
 use Rattle.exchange.proofs.NameLaws.{names-length}
 use Rattle.exchange.proofs.HeaderLaws.{header-named, name-is, header-known, header-value, header-good}
 use borrow.Author.Needs.{needs}

@@ -4,7 +4,7 @@ use native.Mathlib.Omega.{arith}
 use lib.Seq.{length-take-le}
 use borrow.Author.Needs.{needs}
 use Rattle.exchange.specs.Places.{after}
-use Rattle.exchange.specs.Inner.Walks.{ended}
+use Rattle.exchange.specs.Inner.Top.{ended}
 use Rattle.exchange.proofs.TableLaws.{after-all, rows-refused}
 use Rattle.exchange.proofs.table.below_units.Statement.{statement}
 use Rattle.exchange.proofs.table.below_units.Tie as tie

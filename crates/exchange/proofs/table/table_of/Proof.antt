@@ -3,7 +3,7 @@ use mathlib.Core.Path.{_∙_}
 use mathlib.Core.List.{[]}
 use native.Mathlib.Omega.{arith}
 use borrow.Author.Needs.{needs}
-use Rattle.exchange.specs.Inner.Walks.{commented}
+use Rattle.exchange.specs.Inner.Top.{commented}
 use Rattle.exchange.proofs.TableLaws.{not-ctd, bottle-from, ctd-from, headers-from, file-refused, file-from}
 use Rattle.exchange.proofs.table.table_of.Statement.{statement}
 use Rattle.exchange.proofs.table.table_of.Tie as tie

@@ -5,7 +5,8 @@ use native.Mathlib.Omega.{arith}
 use lib.ListN.{length}
 use borrow.Author.Needs.{needs}
 use Rattle.exchange.specs.Places.{Place, run}
-use Rattle.exchange.specs.Inner.Walks.{linesFrom, StartsAt, FreePlace}
+use Rattle.exchange.specs.Inner.Lines.{linesFrom, StartsAt}
+use Rattle.exchange.specs.Inner.Top.{FreePlace}
 use Rattle.exchange.proofs.RunLaws.{line-ends, starts-on}
 use Rattle.exchange.proofs.TopLaws.{only-comment, only-other, free-broken, free-on}
 use Rattle.exchange.proofs.top.free_lines.Statement.{statement}
