@@ -12,12 +12,13 @@ use Rattle.text.specs.declared.Reading.the-variants.{Present, Missing, Refused}
 use Rattle.text.specs.Decimals.{Verdict, blank, wrong, outOfRange, good}
 use Rattle.text.specs.Judge.{Kind, measured, latitude, longitude, depth, flag, ctdFlag, kindOf, judge}
 use Rattle.text.specs.Reading.{signed, doubleOf, readNumber, isDecimal}
+use Rattle.exchange.specs.Grid.{nowhere}
 use Rattle.exchange.specs.Faults.{Fault, clean, breaks}
 use Rattle.exchange.specs.Columns.{bottle, ctd, kindsOf}
 use Rattle.exchange.specs.Places.{Table, after, Outcome, accepted, refused, outcomeOf}
 use Rattle.exchange.specs.Profiles.{Key, keyOf}
 use Rattle.exchange.specs.Answers.{checkedOf, askedOf, kindAt, rowCells, cellText, cellPlace, trimmedPlace, cellOf, refusalBy, readingFor, flaggedOf}
-use Rattle.exchange.specs.Located.{isMeasured, nowhere}
+use Rattle.exchange.specs.Located.{isMeasured}
 use Rattle.exchange.specs.Records.{noProfile, profileOf}
 use Rattle.laws.specs.RuleOrder.{linesIn, placeBefore, rulesOf}
 
