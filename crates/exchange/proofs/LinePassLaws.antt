@@ -6,7 +6,7 @@ use mathlib.Core.Bool.{Bool, true, false, cond, _||_, true≢false}
 use native.Mathlib.Omega.{arith}
 use lib.ListN.{length, getD, take, drop}
 use lib.Dec.{eqb, ltb}
-use borrow.Author.Tests.{ne-eqb, ltb-false, lt-ltb, le-ltb, le-leb, lt-leb, not-true}
+use borrow.Author.Tests.{ne-eqb, ltb-false, lt-ltb, le-ltb, le-leb, lt-leb}
 use Rattle.text.specs.declared.Found.the-variants.{At, Nowhere}
 use Rattle.text.specs.Bytes.{every}
 use Rattle.text.specs.Cells.{lineAt}
@@ -14,13 +14,12 @@ use Rattle.text.specs.Lines.{character, illFrom, illFormed, firstFrom, returnAt
 use Rattle.text.specs.Scans.{Scan}
 use Rattle.text.proofs.CellLaws.{line-in, line-end}
 use Rattle.text.proofs.ScanLaws.{scan-undo}
-use Rattle.text.proofs.LineLaws.{plain-well-formed, plain-no-return, plain-no-control}
-use Rattle.text.proofs.LineLaws as text
+use Rattle.text.proofs.LineLaws.{isPlain, plain-well-formed, plain-no-return, plain-no-control}
 use Rattle.exchange.specs.declared.lines.Line.{Line}
 use Rattle.exchange.specs.Faults.{clean, breaks, _then_, firstOf}
 use Rattle.exchange.specs.LineRules.{foundFault, lineRules, byteRules, unendedRules}
 use Rattle.exchange.specs.Inner.Faults.{byteFault, lineFault, unendedFault}
-use Rattle.exchange.specs.Inner.Lines.{isPlain, lineFaultAt, lineFor, lineOf}
+use Rattle.exchange.specs.Inner.Lines.{lineFaultAt, lineFor, lineOf}
 use Rattle.exchange.proofs.RunLaws.{piece-take}
 
 -- ---- runs of plain bytes
@@ -28,34 +27,38 @@ pub scan-join : {t : ℕ → Bool} {s : List ℕ} {i j k : ℕ} → Scan t s i j
 scan-join r Scan.still = r
 scan-join r (Scan.more q h e) = Scan.more (scan-join r q) h e
 
+-- the code's test of a byte
+plain-byte : (x : ℕ) → (ltb x 32 || ltb 126 x) ≡ false → isPlain x ≡ true
+plain-byte x e = go (ltb x 32) (ltb 126 x) refl refl e
+  where
+    go : (a b : Bool) → ltb x 32 ≡ a → ltb 126 x ≡ b → (a || b) ≡ false → isPlain x ≡ true
+    go true b p q e = absurd (true≢false e)
+    go false true p q e = absurd (true≢false e)
+    go false false p q e = rw (le-leb 32 x (ltb-false x 32 p), le-leb x 126 (ltb-false 126 x q))
+
+-- one byte more
+pub plain-next : {s : List ℕ} {i k : ℕ} → Scan isPlain s i k → k < length s → (ltb (getD s k 0) 32 || ltb 126 (getD s k 0)) ≡ false → Scan isPlain s i (k + 1)
+plain-next {s} {i} {k} r l e = Scan.more r l (plain-byte (getD s k 0) e)
+
 -- one byte more of a block
 pub plain-more : (s : List ℕ) (i k : ℕ) (odd : Bool) → k < length s → (odd ≡ false → Scan isPlain s i k)
     → (odd || ltb (getD s k 0) 32) || ltb 126 (getD s k 0) ≡ false → Scan isPlain s i (k + 1)
 plain-more s i k true l g e = absurd (true≢false e)
-plain-more s i k false l g e = Scan.more (g refl) l (rw e)
-
-plain-range : (x : ℕ) → isPlain x ≡ true → (32 ≤ x) × (x ≤ 126)
-plain-range x e = go (ltb x 32) (ltb 126 x) refl refl (not-true _ e)
-  where
-    go : (a b : Bool) → ltb x 32 ≡ a → ltb 126 x ≡ b → (a || b) ≡ false → (32 ≤ x) × (x ≤ 126)
-    go true b p q e = absurd (true≢false e)
-    go false true p q e = absurd (true≢false e)
-    go false false p q e = (ltb-false x 32 p, ltb-false 126 x q)
+plain-more s i k false l g e = plain-next (g refl) l e
 
 -- up to a line feed: the line, of plain bytes
 plain-up-to : (s : List ℕ) (i q : ℕ) → Scan isPlain s i q → q < length s → getD s q 0 ≡ 10
-    → (every text.isPlain (lineAt s i) ≡ true) × (i + length (lineAt s i) ≡ q)
+    → (every isPlain (lineAt s i) ≡ true) × (i + length (lineAt s i) ≡ q)
 unfolding every
 plain-up-to s i q r l f = scan-undo P one r (rw (line-end s q l f) (refl, omega arith))
   where
     P : ℕ → Type 0
-    P j = (every text.isPlain (lineAt s j) ≡ true) × (j + length (lineAt s j) ≡ q)
+    P j = (every isPlain (lineAt s j) ≡ true) × (j + length (lineAt s j) ≡ q)
 
     one : (j : ℕ) → j < length s → isPlain (getD s j 0) ≡ true → P (j + 1) → P j
     one j h e (a, b) =
-        let w = plain-range (getD s j 0) e in
-        rw (line-in s j h (ne-eqb (getD s j 0) 10 (λ z. omega arith)))
-        (rw (le-leb 32 (getD s j 0) (w .0), le-leb (getD s j 0) 126 (w .1)) a, omega arith)
+        rw (line-in s j h (ne-eqb (getD s j 0) 10 (λ z. true≢false (sym (rw z at e)))))
+        (rw e a, omega arith)
 
 cond-clean : (b : Bool) → cond b clean clean ≡ clean
 cond-clean true = refl

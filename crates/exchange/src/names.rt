@@ -1,4 +1,4 @@
-// Names by place: name k stands, with its spaces, from starts[k] to ends[k].
+// Names by place: name k stands, with its spaces, from starts[k] to ends[k]. Where one stands, the first bad or repeated one, and the station names.
 ghost use mathlib.Core.Path.{_≡_};
 ghost use Prim.Native.Nat.{_≤_, _<_};
 ghost use mathlib.Core.List.{[]};

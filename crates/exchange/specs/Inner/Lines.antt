@@ -2,11 +2,12 @@
 use Prim.Native.Nat.{ℕ, _+_, _-_, _≤_}
 use mathlib.Core.Path.{_≡_}
 use mathlib.Core.List.{List}
-use mathlib.Core.Bool.{Bool, cond, not, _||_}
+use mathlib.Core.Bool.{Bool, cond}
 use lib.ListN.{length, drop}
 use lib.Dec.{ltb}
 use Rattle.text.specs.Cells.{lineAt, pieces}
 use Rattle.text.specs.Scans.{Scan}
+use Rattle.text.proofs.LineLaws.{isPlain}
 use Rattle.exchange.specs.declared.lines.Line.{Line}
 use Rattle.exchange.specs.Faults.{Fault, clean, breaks}
 use Rattle.exchange.specs.Inner.Faults.{lineFault, unendedFault}
@@ -32,10 +33,6 @@ unfoldable pub lineOf : Bool → List ℕ → ℕ → Line
 lineOf control s i = lineFor (lineFaultAt control s i) (i + length (lineAt s i))
 
 -- ---- the line pass
--- bytes 20 to 7E
-abbrev pub isPlain : ℕ → Bool
-isPlain x = not (ltb x 32 || ltb 126 x)
-
 -- from i up to r, which is not past the limit, all bytes are plain
 pub record Plain (s : List ℕ) (i limit r : ℕ) : Type 0 where
   pub low : i ≤ r
