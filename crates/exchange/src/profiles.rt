@@ -14,6 +14,7 @@ use crate::rows::same_keys;
 use crate::table::FileTable;
 use crate::table::table_of;
 use crate::top::BOTTLE;
+use crate::top::NEITHER;
 use crate::values::ValueAt;
 use crate::values::column_value;
 use crate::values::header_value;
@@ -108,7 +109,7 @@ fn no_profile(number: u64, line: u64, column: u64) -> ProfileAt
         number,
         line,
         column,
-        kind: 0,
+        kind: NEITHER,
         headers: 0,
         names: 0,
         at: 0,

@@ -12,6 +12,7 @@ use crate::lines::line_at;
 use crate::rows::read_data;
 use crate::top::BOTTLE;
 use crate::top::CTD;
+use crate::top::NEITHER;
 use crate::top::first_line;
 use crate::top::free_lines;
 use text::refusals;
@@ -41,7 +42,7 @@ fn refused(number: u64, line: u64, column: u64) -> FileTable
         number,
         line,
         column,
-        kind: 0,
+        kind: NEITHER,
         columns: 0,
         kinds: [0; 256],
         flags: [0; 256],

@@ -66,7 +66,7 @@ fn first_refused(number: u64, column: u64) -> First
         at: 0,
         number,
         column,
-        kind: 0,
+        kind: NEITHER,
     }
 }
 
