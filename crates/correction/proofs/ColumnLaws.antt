@@ -10,7 +10,7 @@ use borrow.Author.Tests.{ltb-true}
 use Rattle.text.specs.Bytes.{equal}
 use Rattle.text.specs.Names.{beginsCtd}
 use Rattle.text.proofs.EqualLaws.{equal-same}
-use Rattle.exchange.specs.Columns.{isFlag, parameterOf, Column, columnOf, columnsOf, kindOfName, flagFrom, kindsOf}
+use Rattle.exchange.specs.Columns.{isFlag, parameterOf, kindOfName, flagFrom, kindsOf}
 use Rattle.exchange.specs.Places.{Table}
 use Rattle.exchange.specs.Answers.{kindAt}
 use Rattle.exchange.specs.Located.{nameAt, flagColumn, hasFlag}
@@ -58,9 +58,7 @@ flag-of t c h e = found (flag-from (t .names) 1 (nameAt t c) (flagColumn t c) (s
     ns = t .names
 
     place : flagColumn t c ≡ flagFrom 1 (nameAt t c) ns
-    place =
-        getD-map-in (λ (x : Column). x .flag) (columnsOf ns) (c - 1) 0 (columnOf ns []) (subst (λ (n : ℕ). c - 1 < n) (sym (length-map ns (columnOf ns))) h)
-        ∙ ap (λ (x : Column). x .flag) (getD-map-in (columnOf ns) ns (c - 1) (columnOf ns []) [] h)
+    place = getD-map-in (λ (n : List ℕ). flagFrom 1 n ns) ns (c - 1) 0 [] h
 
     found : (i : ℕ) × (flagColumn t c ≡ 1 + i) × FlagName ns (nameAt t c) i → FlagOf t c (flagColumn t c)
     found (i, p, w) =

@@ -10,11 +10,12 @@ use borrow.Author.Tests.{ne-eqb}
 use Rattle.text.specs.declared.Span.{Span}
 use Rattle.text.specs.Names.{beginsCtd}
 use Rattle.exchange.specs.declared.Located.{Located}
+use Rattle.exchange.specs.Grid.{nowhere}
 use Rattle.exchange.specs.Columns.{kindOfName}
 use Rattle.exchange.specs.Places.{Table, Outcome, accepted, refused, outcomeOf}
 use Rattle.exchange.specs.Profiles.{grid}
 use Rattle.exchange.specs.Answers.{found, missed, askedBy, askedOf, cellPlace}
-use Rattle.exchange.specs.Located.{nameAt, flagColumn, hasFlag, nowhere, flagPlace, locatedBy, locatedOf}
+use Rattle.exchange.specs.Located.{nameAt, flagColumn, hasFlag, flagPlace, locatedBy, locatedOf}
 use Rattle.laws.proofs.AskedLaws.{row-many}
 use Rattle.laws.proofs.FirstBrokenLaws.{checks-first}
 use Rattle.numbers.specs.Texts.{numberText, flagText, atRight}

@@ -5,10 +5,11 @@ use mathlib.Core.Bool.{Bool, true, false, cond}
 use mathlib.Core.List.{List, [], _∷_, map}
 use lib.ListN.{getD}
 use Rattle.text.specs.declared.Span.{Span}
+use Rattle.exchange.specs.Grid.{nowhere}
 use Rattle.exchange.specs.Places.{Table, Outcome, accepted, refused, outcomeOf}
 use Rattle.exchange.specs.Profiles.{grid}
 use Rattle.exchange.specs.Answers.{cellPlace}
-use Rattle.exchange.specs.Located.{nowhere, flagColumn, hasFlag, measurementCells, cellsBy, cellsOf}
+use Rattle.exchange.specs.Located.{flagColumn, hasFlag, measurementCells, cellsBy, cellsOf}
 use Rattle.laws.proofs.JoinLaws.{All}
 use Rattle.laws.proofs.UngridLaws.{ungrid-grid}
 use Rattle.numbers.specs.Texts.{flagText, atRight}

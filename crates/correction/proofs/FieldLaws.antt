@@ -17,8 +17,8 @@ use Rattle.text.specs.Judge.{judge}
 use Rattle.text.specs.Verdicts.{isGood, sizeOf}
 use Rattle.text.specs.Inner.Scans.{Stop}
 use Rattle.text.proofs.CellLaws.{end-feed, cellEnd-from, cellEnd-within, cellEnd-parts, cell-end, pieces-last, pieces-more}
-use Rattle.exchange.specs.ColumnWords.{Ends}
-use Rattle.exchange.proofs.CellsLaws.{ends-stop, ends-before, ends-moved}
+use Rattle.exchange.specs.Inner.Columns.{Ends}
+use Rattle.exchange.proofs.NamesLineLaws.{ends-stop, ends-before, ends-moved}
 use Rattle.correction.specs.declared.ListLine.{ListLine}
 use Rattle.correction.specs.ListLines.{malformed, whole, isRow, decimalIn, millionthsIn, decimalsIn, fieldsRead, byFields}
 

@@ -18,9 +18,9 @@ use Rattle.text.proofs.EveryLaws.{every-cons}
 use Rattle.text.proofs.LineLaws as line
 use Rattle.exchange.specs.Faults.{clean, _then_, unless, kindFault, firstOf}
 use Rattle.exchange.specs.Columns.{kindsOf}
-use Rattle.exchange.specs.Rows.{cellList, rowList}
+use Rattle.exchange.specs.Rows.{cellRules, rowRules}
 use Rattle.exchange.specs.Places.{Table, accepted, outcomeOf}
-use Rattle.exchange.specs.RuleWords.{cellFaults, rowRules}
+use Rattle.exchange.specs.Inner.Faults.{cellFault, rowFault}
 use Rattle.exchange.specs.Profiles.{grid}
 use Rattle.exchange.specs.Answers.{kindAt}
 use Rattle.exchange.specs.Located.{nameAt, isMeasured, flagColumn, hasFlag}
@@ -137,18 +137,18 @@ fault-kept wrong c e = absurd (breaks-clean 16 c e)
 fault-kept outOfRange c e = absurd (breaks-clean 18 c e)
 fault-kept (good m v d) c e = refl
 
-cell-good : (ks : List ℕ) (ts : List (List ℕ)) (c i : ℕ) → cellFaults c ks ts ≡ clean → length ts ≡ length ks → i < length ks → isGood (judge (kindOf (getD ks i 0)) (getD ts i [])) ≡ true
-unfolding cellFaults cellList firstOf
+cell-good : (ks : List ℕ) (ts : List (List ℕ)) (c i : ℕ) → cellFault c ks ts ≡ clean → length ts ≡ length ks → i < length ks → isGood (judge (kindOf (getD ks i 0)) (getD ts i [])) ≡ true
+unfolding cellFault cellRules firstOf
 cell-good [] ts c i e l h = absurd (omega arith)
 cell-good (k ∷ ks) [] c i e l h = absurd (omega arith)
-cell-good (k ∷ ks) (t ∷ ts) c zero e l h = fault-kept (judge (kindOf k) t) c (then-clean (kindFault (judge (kindOf k) t) c) (cellFaults (c + length t + 1) ks ts) e .0)
+cell-good (k ∷ ks) (t ∷ ts) c zero e l h = fault-kept (judge (kindOf k) t) c (then-clean (kindFault (judge (kindOf k) t) c) (cellFault (c + length t + 1) ks ts) e .0)
 cell-good (k ∷ ks) (t ∷ ts) c (suc i) e l h =
-    cell-good ks ts (c + length t + 1) i (then-clean (kindFault (judge (kindOf k) t) c) (cellFaults (c + length t + 1) ks ts) e .1) (omega arith) (omega arith)
+    cell-good ks ts (c + length t + 1) i (then-clean (kindFault (judge (kindOf k) t) c) (cellFault (c + length t + 1) ks ts) e .1) (omega arith) (omega arith)
 
-row-good : (ks : List ℕ) (ts : List (List ℕ)) (i : ℕ) → rowRules ks ts ≡ clean → i < length ks → isGood (judge (kindOf (getD ks i 0)) (getD ts i [])) ≡ true
-unfolding rowRules cellFaults rowList firstOf
+row-good : (ks : List ℕ) (ts : List (List ℕ)) (i : ℕ) → rowFault ks ts ≡ clean → i < length ks → isGood (judge (kindOf (getD ks i 0)) (getD ts i [])) ≡ true
+unfolding rowFault cellFault rowRules firstOf
 row-good ks ts i e h =
-    let w = then-clean (unless (eqb (length ts) (length ks)) 15 1) (cellFaults 1 ks ts) e in
+    let w = then-clean (unless (eqb (length ts) (length ks)) 15 1) (cellFault 1 ks ts) e in
     cell-good ks ts 1 i (w .1) (cells-many ks ts e) h
 
 flag-some : (ctd : Bool) (x : List ℕ) → isGood (judge (kindOf (cond ctd 5 4)) x) ≡ true → 1 ≤ length x

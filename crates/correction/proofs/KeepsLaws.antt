@@ -6,15 +6,16 @@ use mathlib.Core.List.{List, [], _∷_, map}
 use native.Mathlib.Omega.{arith}
 use lib.ListN.{length, getD, length-map, length-drop}
 use Rattle.text.specs.Cells.{pieces}
+use Rattle.exchange.specs.Grid.{nowhere}
 use Rattle.exchange.specs.Columns.{kindOfName, kindsOf}
 use Rattle.exchange.specs.Places.{Table, Outcome, accepted, refused, outcomeOf}
 use Rattle.laws.specs.Writes.{ungrid}
 use Rattle.exchange.specs.Profiles.{grid}
 use Rattle.exchange.specs.Faults.{clean, firstOf}
-use Rattle.exchange.specs.Rows.{boundList}
-use Rattle.exchange.specs.RuleWords.{boundFault}
+use Rattle.exchange.specs.Rows.{boundRules}
+use Rattle.exchange.specs.Inner.Faults.{boundFault}
 use Rattle.exchange.specs.Answers.{cellPlace}
-use Rattle.exchange.specs.Located.{nowhere, flagColumn, hasFlag, measurementCells, cellsBy, cellsOf}
+use Rattle.exchange.specs.Located.{flagColumn, hasFlag, measurementCells, cellsBy, cellsOf}
 use Rattle.exchange.proofs.AcceptLaws.{rows-kept}
 use Rattle.exchange.proofs.GridLaws.{cells-many}
 use Rattle.laws.proofs.JoinLaws.{All}
@@ -40,7 +41,7 @@ all-rows P ks widths (w ∷ ws) l h a b = (h w (a .0) (b .0), all-rows P ks widt
 
 -- what binds the cells of a row together holds of the corrected row
 bound-kept : (ns ts : List (List ℕ)) → boundFault ns ts ≡ clean
-unfolding boundFault boundList firstOf
+unfolding boundFault boundRules firstOf
 bound-kept ns ts = refl
 
 -- ---- an accepted file, an applied correction

@@ -20,10 +20,10 @@ use Rattle.text.proofs.CellLaws.{isEnd, cellEnd-from, cellEnd-within, cell-in, 
 use Rattle.text.proofs.SpaceLaws.{slice-take}
 use Rattle.text.proofs.JudgeLaws.{judged-stop, judged-end, whole-stop, whole-end}
 use Rattle.text.proofs.ReadingLaws.{signed-small, number-back}
-use Rattle.exchange.specs.ColumnWords.{Ends}
-use Rattle.exchange.proofs.CellsLaws.{cell-slice}
+use Rattle.exchange.specs.Inner.Columns.{Ends}
+use Rattle.exchange.proofs.GridWalkLaws.{cell-slice}
 use Rattle.exchange.proofs.GridLaws.{total, total-pieces}
-use Rattle.exchange.proofs.AskLaws.{size-anywhere}
+use Rattle.exchange.proofs.CellLaws.{size-anywhere}
 use Rattle.correction.specs.declared.ListLine.{ListLine}
 use Rattle.correction.specs.ListLines.{malformed, whole, isRow, decimalIn, millionthsIn, decimalsIn, byFields, isOneLine, lineRead}
 use Rattle.correction.proofs.FieldLaws.{after, field, fields, tabs-stop, after-ends, after-fields, allGood, listed, lineOf, fields-line, goodAt, lineWith, four-fields}

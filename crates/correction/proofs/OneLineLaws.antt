@@ -12,8 +12,8 @@ use Rattle.text.specs.Cells.{lineAt}
 use Rattle.text.proofs.CellLaws.{both-true}
 use Rattle.text.proofs.EveryLaws.{every-end, every-stop, every-step}
 use Rattle.text.proofs.SpaceLaws.{isSolid}
-use Rattle.exchange.specs.ColumnWords.{Ends}
-use Rattle.exchange.proofs.PlaceLaws.{line-stop, line-on, line-none}
+use Rattle.exchange.specs.Inner.Columns.{Ends}
+use Rattle.exchange.proofs.GridWalkLaws.{line-stop, line-on, line-none}
 use Rattle.correction.specs.ListLines.{isOneLine}
 
 -- seen from i on

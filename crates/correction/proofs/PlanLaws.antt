@@ -10,11 +10,10 @@ use borrow.Author.Tests.{ltb-true, ltb-false, lt-ltb}
 use Rattle.text.specs.declared.Span.{Span}
 use Rattle.text.specs.Cells.{pieces}
 use Rattle.exchange.specs.Places.{Table, Outcome, accepted, refused, outcomeOf}
-use Rattle.exchange.specs.Grid.{starts, spanIn}
+use Rattle.exchange.specs.Grid.{starts, spanIn, nowhere}
 use Rattle.laws.specs.Writes.{join, ungrid}
 use Rattle.exchange.specs.Profiles.{grid}
 use Rattle.exchange.specs.Answers.{cellPlace}
-use Rattle.exchange.specs.Located.{nowhere}
 use Rattle.laws.proofs.JoinLaws.{All}
 use Rattle.laws.proofs.UngridLaws.{clean-grid, ungrid-grid, lines-ungrid}
 use Rattle.numbers.specs.Texts.{atRight}

@@ -18,7 +18,7 @@ use Rattle.exchange.specs.Profiles.{grid}
 use Rattle.exchange.specs.Answers.{kindAt, found, askedBy, askedOf, cellText, readingBy, readingFor, flaggedBy, flaggedOf}
 use Rattle.exchange.specs.Located.{nameAt, flagColumn, hasFlag, flagColumnBy, flagColumnOf}
 use Rattle.laws.proofs.JoinLaws.{All}
-use Rattle.exchange.proofs.AskLaws as ask
+use Rattle.exchange.proofs.CellLaws as ask
 use Rattle.numbers.specs.Texts.{numberText, flagText, atRight}
 use Rattle.numbers.proofs.TextLaws.{number-judged, number-signed}
 use Rattle.correction.specs.declared.Answer.{Answer}

@@ -12,7 +12,7 @@ use Rattle.text.specs.declared.Span.{Span}
 use Rattle.text.specs.Bytes.{bytes, equal}
 use Rattle.text.specs.Spaces.{trim}
 use Rattle.text.specs.Names.{parameterLength}
-use Rattle.text.specs.Kinds.{kindOf}
+use Rattle.text.specs.Kinds.{Kind, castno, date}
 use Rattle.text.specs.Judge.{judge}
 use Rattle.text.specs.Catalogue.{listed, base256, insert, ordered, flat, names, kinds, searchFrom, lookUp, kindIn}
 use Rattle.text.specs.Verdicts.{sizeOf}
@@ -70,7 +70,7 @@ key-set ks r c u h =
     let a = cell-of-kind-set 6 [] ks r c u (λ e. omega arith) in
     let b = cell-of-kind-set 7 [] ks r c u (λ e. omega arith) in
     let d = cell-of-kind-set 8 [] ks r c u (λ e. omega arith) in
-    λ i. record { expocode = trim (a i); stnnbr = trim (b i); castno = sizeOf (judge (kindOf 8) (d i)) }
+    λ i. record { expocode = trim (a i); stnnbr = trim (b i); castno = sizeOf (judge castno (d i)) }
 
 low-keys : (ks : List ℕ) (ws : List Put) → All (Low ks) ws → All (λ w. (r : List (List ℕ)) → keyOf ks (set r (w .col) (w .text)) ≡ keyOf ks r) ws
 low-keys ks [] a = tt
@@ -170,15 +170,15 @@ module _ (f : List ℕ) (o : Order) (t : Table) (n : ℕ) (e : outcomeOf f ≡ a
   time-kept : (r : ℕ) → castTime (stationValue t g r (bytes "TIME")) ≡ castTime (stationValue t f r (bytes "TIME"))
   time-kept r = station-kept castTime (λ x p q. refl) r (bytes "TIME") (omega (arith, time-kind))
 
-  number-kept : (k r : ℕ) (name : List ℕ) → 6 ≤ kindOfName name → numberIn k (stationValue t g r name) ≡ numberIn k (stationValue t f r name)
+  number-kept : (k : Kind) (r : ℕ) (name : List ℕ) → 6 ≤ kindOfName name → numberIn k (stationValue t g r name) ≡ numberIn k (stationValue t f r name)
   number-kept k r name h = station-kept (numberIn k) (λ x p q. refl) r name h
 
   record-kept : (rs : List ℕ) → recordOf t g rs ≡ recordOf t f rs
   record-kept [] = refl
   record-kept (r ∷ rs) =
       let a = time-kept r in
-      let b = number-kept 8 r (bytes "CASTNO") (omega (arith, castno-kind)) in
-      let c = number-kept 9 r (bytes "DATE") (omega (arith, date-kind)) in
+      let b = number-kept castno r (bytes "CASTNO") (omega (arith, castno-kind)) in
+      let c = number-kept date r (bytes "DATE") (omega (arith, date-kind)) in
       λ i. record { number = 0; line = 0; column = 0; time = a i; first = r; rows = length (r ∷ rs); castno = b i; date = c i }
 
   profile-kept : (k : ℕ) → recordOf t g (profileRows t n g k) ≡ recordOf t f (profileRows t n f k)

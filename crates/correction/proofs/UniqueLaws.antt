@@ -12,13 +12,13 @@ use Rattle.text.specs.Spaces.{trim}
 use Rattle.text.specs.Names.{isName}
 use Rattle.exchange.specs.declared.names.NameFault.the-variants.{Clean, Bad, Repeated}
 use Rattle.exchange.specs.Faults.{Fault, clean, breaks, _then_, firstOf, unless, member, hasAll}
-use Rattle.exchange.specs.LineRules.{lineList}
+use Rattle.exchange.specs.LineRules.{lineRules}
 use Rattle.exchange.specs.Headers.{Header, headerOf, headersSaid}
-use Rattle.exchange.specs.Columns.{Sort, bottle, ctd, nameList, requiredNames, namesOf, namesList}
+use Rattle.exchange.specs.Columns.{Sort, bottle, ctd, nameRules, requiredNames, namesOf, namesLineRules}
 use Rattle.exchange.specs.Rows.{isEndData}
-use Rattle.exchange.specs.Places.{Table, Place, first, comments, headers, names, units, rows, after, stopped, isComment, topList, rulesAt, endList, endRules, dueHeaders, afterTop, nextPlace, stopAt, step, accepted, last, run, outcomeOf}
-use Rattle.exchange.specs.RuleWords.{nameFaults, flagFaults, namesRules}
-use Rattle.exchange.specs.NameWords.{faultIn}
+use Rattle.exchange.specs.Places.{Table, Place, first, comments, headers, names, units, rows, after, stopped, isComment, topRules, rulesAt, lastPieceRules, endRules, dueHeaders, afterTop, nextPlace, stopAt, step, accepted, last, run, outcomeOf}
+use Rattle.exchange.specs.Inner.Faults.{nameFault, flagFault, namesLineFault}
+use Rattle.exchange.specs.Inner.Names.{faultIn}
 use Rattle.exchange.proofs.RuleLaws.{first-append, names-rules}
 use Rattle.exchange.proofs.HeaderLaws.{then-clean}
 use Rattle.exchange.proofs.NameLaws.{clean-unique}
@@ -28,23 +28,23 @@ use Rattle.exchange.proofs.AcceptLaws.{accepted-not-refused, accepted-table, cu
 abbrev pub Unique : List (List ℕ) → Type 0
 Unique ns = (i j : ℕ) → i < length ns → j < length ns → getD ns i [] ≡ getD ns j [] → i ≡ j
 
-names-fresh : (c b : ℕ) (earlier ts : List (List ℕ)) → nameFaults c earlier ts ≡ clean → faultIn earlier (map trim ts) b ≡ Clean
-unfolding nameFaults nameList firstOf faultIn
+names-fresh : (c b : ℕ) (earlier ts : List (List ℕ)) → nameFault c earlier ts ≡ clean → faultIn earlier (map trim ts) b ≡ Clean
+unfolding nameFault nameRules firstOf faultIn
 names-fresh c b earlier [] e = refl
 names-fresh c b earlier (t ∷ ts) e = go (isName (trim t)) (member (trim t) earlier) (names-fresh (c + length t + 1) (suc b) (earlier ++ trim t ∷ []) ts) (then-clean (unless (ltb (length earlier) 256) 11 c) _ e .1)
   where
-    go : (p q : Bool) → (nameFaults (c + length t + 1) (earlier ++ trim t ∷ []) ts ≡ clean → faultIn (earlier ++ trim t ∷ []) (map trim ts) (suc b) ≡ Clean)
-        → ((unless p 10 c) then (unless (not q) 9 c) then nameFaults (c + length t + 1) (earlier ++ trim t ∷ []) ts) ≡ clean
+    go : (p q : Bool) → (nameFault (c + length t + 1) (earlier ++ trim t ∷ []) ts ≡ clean → faultIn (earlier ++ trim t ∷ []) (map trim ts) (suc b) ≡ Clean)
+        → ((unless p 10 c) then (unless (not q) 9 c) then nameFault (c + length t + 1) (earlier ++ trim t ∷ []) ts) ≡ clean
         → cond p (cond q (Repeated b) (faultIn (earlier ++ trim t ∷ []) (map trim ts) (suc b))) (Bad b) ≡ Clean
     go false q ih e = let z : _≡_ {A = ℕ} 0 1 = cc in absurd (omega arith)
     go true true ih e = let z : _≡_ {A = ℕ} 0 1 = cc in absurd (omega arith)
     go true false ih e = ih e
 
-names-unique : (k : Sort) (x : List ℕ) → namesRules k x ≡ clean → Unique (namesOf x)
+names-unique : (k : Sort) (x : List ℕ) → namesLineFault k x ≡ clean → Unique (namesOf x)
 names-unique k x e i j a b q = go (eqb i j) refl
   where
     first-clean : faultIn [] (namesOf x) 0 ≡ Clean
-    first-clean = names-fresh 1 0 [] (pieces 44 x) (then-clean (nameFaults 1 [] (pieces 44 x)) (flagFaults 1 (namesOf x) (pieces 44 x) then unless (hasAll (requiredNames k) (namesOf x)) 13 1) (sym (names-rules k x) ∙ e) .0)
+    first-clean = names-fresh 1 0 [] (pieces 44 x) (then-clean (nameFault 1 [] (pieces 44 x)) (flagFault 1 (namesOf x) (pieces 44 x) then unless (hasAll (requiredNames k) (namesOf x)) 13 1) (sym (names-rules k x) ∙ e) .0)
 
     go : (z : Bool) → eqb i j ≡ z → i ≡ j
     go true z = eqb-true i j z
@@ -70,16 +70,16 @@ named-due zero hs = tt
 named-due (suc due) hs = tt
 
 -- a names line that is passed keeps the rules of its names
-named-units : (k : Sort) (hs : List Header) (x : List ℕ) → firstOf (lineList true x ++ namesList k x) ≡ clean → Named (units k hs (namesOf x))
-unfolding namesRules
-named-units k hs x e = names-unique k x (then-clean (firstOf (lineList true x)) (firstOf (namesList k x)) (sym (first-append (lineList true x) (namesList k x)) ∙ e) .1)
+named-units : (k : Sort) (hs : List Header) (x : List ℕ) → firstOf (lineRules true x ++ namesLineRules k x) ≡ clean → Named (units k hs (namesOf x))
+unfolding namesLineFault
+named-units k hs x e = names-unique k x (then-clean (firstOf (lineRules true x)) (firstOf (namesLineRules k x)) (sym (first-append (lineRules true x) (namesLineRules k x)) ∙ e) .1)
 
 named-next : (l : ℕ) (p : Place) (x : List ℕ) → Named p → firstOf (rulesAt p x) ≡ clean → Named (nextPlace l p x)
 unfolding rulesAt nextPlace
 named-next l first x h e = tt
 named-next l (comments k) x h e = go (isComment x) k e
   where
-    go : (z : Bool) (k : Sort) → firstOf (cond z (lineList false x) (lineList true x ++ topList k x)) ≡ clean → Named (cond z (comments k) (afterTop k x))
+    go : (z : Bool) (k : Sort) → firstOf (cond z (lineRules false x) (lineRules true x ++ topRules k x)) ≡ clean → Named (cond z (comments k) (afterTop k x))
     go true k e = tt
     go false bottle e = named-units bottle [] x e
     go false ctd e = named-due (headersSaid x - 1) (headerOf x ∷ [])
@@ -98,7 +98,7 @@ named-step : (l : ℕ) (p : Place) (x : List ℕ) → Named p → Named (step l 
 named-step l p x h = named-stop l (firstOf (rulesAt p x)) (nextPlace l p x) (named-next l p x h)
 
 named-end : (l : ℕ) (p : Place) (t : Table) (n : ℕ) → Named p → last l p [] ≡ accepted t n → Unique (t .names)
-unfolding endRules endList firstOf
+unfolding endRules lastPieceRules firstOf
 named-end l first t n h e = absurd (accepted-not-refused e)
 named-end l (comments k) t n h e = absurd (accepted-not-refused e)
 named-end l (headers due hs) t n h e = absurd (accepted-not-refused e)

@@ -12,8 +12,8 @@ use Rattle.exchange.specs.Faults.{Fault, clean, breaks, firstOf, unless}
 use Rattle.exchange.specs.Headers.{Header, headerOf, headersSaid}
 use Rattle.exchange.specs.Columns.{Sort, bottle, ctd, kindsOf}
 use Rattle.exchange.specs.Rows.{isEndData}
-use Rattle.exchange.specs.Places.{Table, Place, first, comments, headers, names, units, rows, after, stopped, isComment, rulesAt, endList, endRules, dueHeaders, afterTop, nextPlace, stopAt, step, Outcome, accepted, refused, last, run, outcomeOf}
-use Rattle.exchange.specs.RuleWords.{lineRules, unended, rowRules, boundFault}
+use Rattle.exchange.specs.Places.{Table, Place, first, comments, headers, names, units, rows, after, stopped, isComment, rulesAt, lastPieceRules, endRules, dueHeaders, afterTop, nextPlace, stopAt, step, accepted, refused, last, run, outcomeOf}
+use Rattle.exchange.specs.Inner.Faults.{lineFault, unendedFault, rowFault, boundFault}
 use Rattle.exchange.proofs.RuleLaws.{end-step, row-step, Going, faultOutcome, last-cut}
 use Rattle.exchange.proofs.RunLaws.{run-stopped}
 use Rattle.exchange.proofs.HeaderLaws.{breaks-clean, then-clean}
@@ -38,7 +38,7 @@ stops-refused l m k (breaks a c) p ps t n e = absurd (accepted-not-refused (sym 
 
 -- a last line that has no line feed is refused
 cut-going : (l : ℕ) (p : Place) (x : ℕ) (xs : List ℕ) (t : Table) (n : ℕ) → Going p → last l p (x ∷ xs) ≡ accepted t n → ⊥
-cut-going l p x xs t n g e = fault-refused l (unended (x ∷ xs)) t n (sym (last-cut l p (x ∷ xs) (omega arith) g) ∙ e)
+cut-going l p x xs t n g e = fault-refused l (unendedFault (x ∷ xs)) t n (sym (last-cut l p (x ∷ xs) (omega arith) g) ∙ e)
 
 pub cut-refused : (l : ℕ) (p : Place) (x : ℕ) (xs : List ℕ) (t : Table) (n : ℕ) → last l p (x ∷ xs) ≡ accepted t n → ⊥
 unfolding endRules firstOf
@@ -53,7 +53,7 @@ cut-refused l (stopped a b c) x xs t n e = accepted-not-refused e
 
 -- ---- after END_DATA the table and the number of rows stay
 pub after-accepted : (ps : List (List ℕ)) (l : ℕ) (t : Table) (m : ℕ) (u : Table) (n : ℕ) → run l (after t m) ps ≡ accepted u n → (t ≡ u) × (m ≡ n)
-unfolding run endRules endList firstOf nextPlace
+unfolding run endRules lastPieceRules firstOf nextPlace
 after-accepted [] l t m u n e = (accepted-table e, accepted-rows e)
 after-accepted ([] ∷ []) l t m u n e = (accepted-table e, accepted-rows e)
 after-accepted ((x ∷ xs) ∷ []) l t m u n e = absurd (cut-refused l (after t m) x xs u n e)
@@ -62,8 +62,8 @@ after-accepted (x ∷ (y ∷ ys)) l t m u n e = after-accepted (y ∷ ys) (l + 1
 -- ---- the data lines
 pub record RowKept (t : Table) (ps : List (List ℕ)) (r : ℕ) : Type 0 where
   pub line : suc r < length ps
-  pub bytes : lineRules true (getD ps r []) ≡ clean
-  pub cells : rowRules (kindsOf (t .names)) (pieces 44 (getD ps r [])) ≡ clean
+  pub bytes : lineFault true (getD ps r []) ≡ clean
+  pub cells : rowFault (kindsOf (t .names)) (pieces 44 (getD ps r [])) ≡ clean
   pub bound : boundFault (t .names) (pieces 44 (getD ps r [])) ≡ clean
 
 pub record RowsKept (t : Table) (m : ℕ) (ps : List (List ℕ)) (u : Table) (n : ℕ) : Type 0 where
@@ -80,24 +80,24 @@ module _ (l : ℕ) (t : Table) (m : ℕ) (x : List ℕ) (ps : List (List ℕ)) (
   pub end-passed : isEndData x ≡ true → (m ≡ 0 → ⊥) × (run (l + 1) (after t m) ps ≡ accepted u n)
   end-passed q =
       let w = stops-refused (l + 1) 0 l _ (after t m) ps u n (ap (λ (p : Place). run (l + 1) p ps) (sym (end-step l t m x q)) ∙ e) in
-      (go (eqb m 0) refl (then-clean (lineRules true x) _ (w .0) .1), w .1)
+      (go (eqb m 0) refl (then-clean (lineFault true x) _ (w .0) .1), w .1)
     where
       go : (z : Bool) → eqb m 0 ≡ z → unless (not z) 19 1 ≡ clean → m ≡ 0 → ⊥
       go true q f = absurd (breaks-clean 19 1 f)
       go false q f = eqb-false m 0 q
 
   pub row-passed : isEndData x ≡ false
-      → (lineRules true x ≡ clean) × (unless (ltb m 1000000) 20 1 ≡ clean) × (rowRules (kindsOf (t .names)) (pieces 44 x) ≡ clean) × (boundFault (t .names) (pieces 44 x) ≡ clean)
+      → (lineFault true x ≡ clean) × (unless (ltb m 1000000) 20 1 ≡ clean) × (rowFault (kindsOf (t .names)) (pieces 44 x) ≡ clean) × (boundFault (t .names) (pieces 44 x) ≡ clean)
       × (run (l + 1) (rows t (m + 1)) ps ≡ accepted u n)
   row-passed q =
       let w = stops-refused (l + 1) 0 l _ (rows t (m + 1)) ps u n (ap (λ (p : Place). run (l + 1) p ps) (sym (row-step l t m x q)) ∙ e) in
-      let a = then-clean (lineRules true x) _ (w .0) in
+      let a = then-clean (lineFault true x) _ (w .0) in
       let b = then-clean (unless (ltb m 1000000) 20 1) _ (a .1) in
-      let c = then-clean (rowRules (kindsOf (t .names)) (pieces 44 x)) (boundFault (t .names) (pieces 44 x)) (b .1) in
+      let c = then-clean (rowFault (kindsOf (t .names)) (pieces 44 x)) (boundFault (t .names) (pieces 44 x)) (b .1) in
       (a .0, b .0, c .0, c .1, w .1)
 
 pub rows-accepted : (ps : List (List ℕ)) (l : ℕ) (t : Table) (m : ℕ) (u : Table) (n : ℕ) → run l (rows t m) ps ≡ accepted u n → RowsKept t m ps u n
-unfolding run endRules endList firstOf
+unfolding run endRules lastPieceRules firstOf
 rows-accepted [] l t m u n e = absurd (accepted-not-refused e)
 rows-accepted ([] ∷ []) l t m u n e = absurd (accepted-not-refused e)
 rows-accepted ((x ∷ xs) ∷ []) l t m u n e = absurd (cut-refused l (rows t m) x xs u n e)
@@ -116,7 +116,7 @@ rows-accepted (x ∷ (y ∷ ys)) l t m u n e = by (isEndData x) refl (rows-accep
         let k = ih (w .4) in
         record { table = k .table; more = omega (arith, k .more); some = k .some; kept = λ r h. go r h k (w .0) (w .2) (w .3) }
       where
-        go : (r : ℕ) → r < n - m → RowsKept t (m + 1) (y ∷ ys) u n → lineRules true x ≡ clean → rowRules (kindsOf (t .names)) (pieces 44 x) ≡ clean → boundFault (t .names) (pieces 44 x) ≡ clean → RowKept t ps r
+        go : (r : ℕ) → r < n - m → RowsKept t (m + 1) (y ∷ ys) u n → lineFault true x ≡ clean → rowFault (kindsOf (t .names)) (pieces 44 x) ≡ clean → boundFault (t .names) (pieces 44 x) ≡ clean → RowKept t ps r
         go zero h k a b c = record { line = omega arith; bytes = a; cells = b; bound = c }
         go (suc r) h k a b c = let o = k .kept r (omega (arith, h)) in record { line = omega (arith, o .line); bytes = o .bytes; cells = o .cells; bound = o .bound }
 
@@ -164,7 +164,7 @@ pub next-step : (l : ℕ) (p : Place) (x : List ℕ) → Early p → Next l (ste
 next-step l p x h = next-stop l l (firstOf (rulesAt p x)) (nextPlace l p x) (next-place l p x h)
 
 pub early-ends : (l : ℕ) (p : Place) (t : Table) (n : ℕ) → Early p → last l p [] ≡ accepted t n → ⊥
-unfolding endRules endList firstOf
+unfolding endRules lastPieceRules firstOf
 early-ends l first t n h e = accepted-not-refused e
 early-ends l (comments k) t n h e = accepted-not-refused e
 early-ends l (headers due hs) t n h e = accepted-not-refused e

@@ -22,15 +22,15 @@ use Rattle.exchange.specs.declared.names.NameFault.{NameFault}
 use Rattle.exchange.specs.declared.names.NameFault.the-variants.{Clean, Bad, Repeated}
 use Rattle.exchange.specs.Faults.{Fault, clean, breaks, _then_, unless, member, hasAll, placeIn, firstOf}
 use Rattle.exchange.specs.Headers.{stationNames}
-use Rattle.exchange.specs.Columns.{Sort, ctd, Column, isFlag, parameterOf, hasParameter, requiredNames, namesOf, kindOfName, flagFrom, columnOf, nameList, flagList}
-use Rattle.exchange.specs.RuleWords.{nameFaults, flagFaults, namesRules}
+use Rattle.exchange.specs.Columns.{Sort, ctd, isFlag, parameterOf, hasParameter, requiredNames, namesOf, kindOfName, flagFrom, flagsOf, nameRules, flagRules}
+use Rattle.exchange.specs.Inner.Faults.{nameFault, flagFault, namesLineFault, asFault}
 use Rattle.exchange.specs.declared.columns.Cells.{Cells}
 use Rattle.exchange.specs.declared.columns.Columns.{Columns}
-use Rattle.exchange.specs.Walks.{textIn, namesAt, asFault, sortFor, ColumnsRead}
-use Rattle.exchange.specs.NameWords.{faultIn}
-use Rattle.exchange.specs.ColumnWords.{startOf, Placed, CellsFound, KindsRead, parameterPlace}
+use Rattle.exchange.specs.Inner.Top.{sortFor}
+use Rattle.exchange.specs.Inner.Names.{faultIn, textIn, namesAt}
+use Rattle.exchange.specs.Inner.Columns.{startOf, Placed, CellsFound, KindsRead, parameterPlace, ColumnsRead}
 use Rattle.exchange.proofs.NameLaws.{names-length, name-given, Within, fault-within, place-test, place-member, place-within, place-name, clean-fresh, clean-unique}
-use Rattle.exchange.proofs.CellsLaws.{start-next}
+use Rattle.exchange.proofs.NamesLineLaws.{start-first, start-later, start-next}
 use Rattle.exchange.proofs.RuleLaws.{names-rules}
 
 -- ---- the place of a parameter
@@ -128,14 +128,19 @@ pub record Kinded (ts : List (List ℕ)) (k : ℕ) (of at : List ℕ) : Type 0 w
   pub broad : length at ≡ 256
   pub done : take k of ≡ map kindOfName (take k (map trim ts))
   pub marks : (j : ℕ) → j < length ts → getD at j 0 ≡ flagFrom 1 (getD (map trim ts) j []) (take k (map trim ts))
-  pub left : flagFaults 1 (map trim ts) ts ≡ flagFaults (startOf 1 ts k) (map trim ts) (drop k ts)
+  pub left : flagFault 1 (map trim ts) ts ≡ flagFault (startOf 1 ts k) (map trim ts) (drop k ts)
 
 pub kinded-none : (ts : List (List ℕ)) (of at : List ℕ) → length of ≡ 256 → length at ≡ 256 → ((j : ℕ) → getD at j 0 ≡ 0) → Kinded ts 0 of at
-unfolding flagFrom startOf
-kinded-none [] of at a b f =
-    record { inside = omega arith; wide = a; broad = b; done = refl; marks = λ j h. f j; left = refl }
-kinded-none (t ∷ ts) of at a b f =
-    record { inside = omega arith; wide = a; broad = b; done = refl; marks = λ j h. f j; left = refl }
+unfolding flagFrom
+kinded-none ts of at a b f =
+    record {
+      inside = omega arith;
+      wide = a;
+      broad = b;
+      done = refl;
+      marks = λ j h. f j;
+      left = ap (λ (c : ℕ). flagFault c (map trim ts) ts) (sym (start-first 1 ts));
+    }
 
 pub zeros-get : (n j : ℕ) → _≡_ {A = ℕ} (getD (replicate n 0) j 0) 0
 zeros-get zero j = refl
@@ -157,18 +162,18 @@ module _ (ts : List (List ℕ)) (k : ℕ) (h : k < length ts) where
   take-one : take (k + 1) (map trim ts) ≡ take k (map trim ts) ++ getD (map trim ts) k [] ∷ []
   take-one = rw (add-one k) (take-suc (map trim ts) k [] names-room)
 
-  faults-here : flagFaults (startOf 1 ts k) (map trim ts) (drop k ts)
+  faults-here : flagFault (startOf 1 ts k) (map trim ts) (drop k ts)
       ≡ ((unless (not (isFlag (getD (map trim ts) k [])) || hasParameter (map trim ts) (getD (map trim ts) k [])) 12 (startOf 1 ts k))
-      then flagFaults (startOf 1 ts (k + 1)) (map trim ts) (drop (k + 1) ts))
-  unfolding flagFaults flagList firstOf
+      then flagFault (startOf 1 ts (k + 1)) (map trim ts) (drop (k + 1) ts))
+  unfolding flagFault flagRules firstOf
   faults-here = rw (start-next 1 ts k h, add-one k, ← here-trim, drop-cons ts k [] h)
 
   pub faults-stop : isFlag (getD (map trim ts) k []) ≡ true → hasParameter (map trim ts) (getD (map trim ts) k []) ≡ false
-      → flagFaults (startOf 1 ts k) (map trim ts) (drop k ts) ≡ breaks 12 (startOf 1 ts k)
+      → flagFault (startOf 1 ts k) (map trim ts) (drop k ts) ≡ breaks 12 (startOf 1 ts k)
   faults-stop a b = faults-here ∙ rw (a, b)
 
   faults-on : (b : Bool) → b ≡ true → (not (isFlag (getD (map trim ts) k [])) || hasParameter (map trim ts) (getD (map trim ts) k [])) ≡ b
-      → flagFaults (startOf 1 ts k) (map trim ts) (drop k ts) ≡ flagFaults (startOf 1 ts (k + 1)) (map trim ts) (drop (k + 1) ts)
+      → flagFault (startOf 1 ts k) (map trim ts) (drop k ts) ≡ flagFault (startOf 1 ts (k + 1)) (map trim ts) (drop (k + 1) ts)
   faults-on b p q = faults-here ∙ rw (q ∙ p)
 
   module _ (of at : List ℕ) (w : Kinded ts k of at) (few : length ts ≤ 256) where
@@ -207,7 +212,7 @@ module _ (ts : List (List ℕ)) (k : ℕ) (h : k < length ts) where
           sym (parameter-found (parameterOf (getD (map trim ts) k [])) (map trim ts))
           ∙ ap (λ (n : ℕ). ltb n (length (map trim ts))) (sym p) ∙ ap (ltb j) (length-map ts trim) ∙ q
 
-      pub flag-alone : j ≡ length ts → flagFaults 1 (map trim ts) ts ≡ breaks 12 (startOf 1 ts k)
+      pub flag-alone : j ≡ length ts → flagFault 1 (map trim ts) ts ≡ breaks 12 (startOf 1 ts k)
       flag-alone q = w .left ∙ faults-stop f (has-it false (le-ltb j (length ts) (omega arith)))
 
       pub kinded-flag : (j ≡ length ts → ⊥) → faultIn [] (map trim ts) 0 ≡ Clean → (v : ℕ) → v ≡ cond (beginsCtd (parameterOf (getD (map trim ts) k []))) 5 4
@@ -255,7 +260,7 @@ module _ (ts : List (List ℕ)) (k : ℕ) (h : k < length ts) where
 
 -- ---- all columns
 flags-all : (ms ns : List (List ℕ)) (l : List ℕ) → length l ≡ length ns → ((j : ℕ) → j < length ns → getD l j 0 ≡ flagFrom 1 (getD ns j []) ms)
-    → l ≡ map (λ (c : Column). c .flag) (map (columnOf ms) ns)
+    → l ≡ map (λ (n : List ℕ). flagFrom 1 n ms) ns
 flags-all ms [] [] e f = refl
 flags-all ms [] (x ∷ l) e f = absurd (omega arith)
 flags-all ms (n ∷ ns) [] e f = absurd (omega arith)
@@ -269,15 +274,15 @@ module _ (ts : List (List ℕ)) (k : ℕ) (of at : List ℕ) (w : Kinded ts k of
   pub kinds-done : take k of ≡ map kindOfName (map trim ts)
   kinds-done = w .done ∙ ap (map kindOfName) all-names
 
-  pub flags-done : take k at ≡ map (λ (c : Column). c .flag) (map (columnOf (map trim ts)) (map trim ts))
+  pub flags-done : take k at ≡ flagsOf (map trim ts)
   flags-done =
       flags-all (map trim ts) (map trim ts) (take k at)
       (length-take-le k at (rw (w .broad) (omega arith)) ∙ e ∙ sym (length-map ts trim))
       (λ j h. let l : j < length ts = rw length-map at h in
       getD-take k at j 0 (omega arith) ∙ w .marks j l ∙ ap (flagFrom 1 (getD (map trim ts) j [])) all-names)
 
-  pub faults-done : clean ≡ flagFaults 1 (map trim ts) ts
-  unfolding flagFaults flagList firstOf
+  pub faults-done : clean ≡ flagFault 1 (map trim ts) ts
+  unfolding flagFault flagRules firstOf
   faults-done = sym (w .left ∙ rw (drop-of-length-le ts {i = k} (omega arith)))
 
 -- ---- the turns of the walk over the names
@@ -328,7 +333,7 @@ module _ (s : List ℕ) (at n : ℕ) (starts ends : List ℕ) (pl : Placed s at 
         pub turn-within : j ≤ n
         turn-within = omega (arith, en, parameter-at (pieces 44 (lineAt s at)) k room-there of fl w few-there flag-there j place-there)
 
-        pub turn-alone : j ≡ n → flagFaults 1 (map trim (pieces 44 (lineAt s at))) (pieces 44 (lineAt s at)) ≡ breaks 12 (startOf 1 (pieces 44 (lineAt s at)) k)
+        pub turn-alone : j ≡ n → flagFault 1 (map trim (pieces 44 (lineAt s at))) (pieces 44 (lineAt s at)) ≡ breaks 12 (startOf 1 (pieces 44 (lineAt s at)) k)
         turn-alone q = flag-alone (pieces 44 (lineAt s at)) k room-there of fl w few-there flag-there j place-there (q ∙ en)
 
         pub turn-flag : (j ≡ n → ⊥) → faultIn [] (map trim (pieces 44 (lineAt s at))) 0 ≡ Clean → v ≡ cond (beginsCtd (take p t)) 5 4 → fl' ≡ set fl j (k + 1)
@@ -346,7 +351,7 @@ module _ (r : Columns) (m c d : ℕ) (g : 0 < m) (p : r .number ≡ m) (q : r .c
   fault-given : asFault (r .number) (r .column) ≡ breaks m d
   fault-given = rw (p, q, e) (fault-number m d g)
 
-  pub kinds-refused : (x : List ℕ) → flagFaults 1 (namesOf x) (pieces 44 x) ≡ breaks m d → KindsRead x r
+  pub kinds-refused : (x : List ℕ) → flagFault 1 (namesOf x) (pieces 44 x) ≡ breaks m d → KindsRead x r
   kinds-refused x f =
       record {
         fault = fault-given ∙ sym f;
@@ -355,7 +360,7 @@ module _ (r : Columns) (m c d : ℕ) (g : 0 < m) (p : r .number ≡ m) (q : r .c
         flags = λ z. absurd (omega arith);
       }
 
-  pub names-refused : (k : Sort) (x : List ℕ) → namesRules k x ≡ breaks m d → ColumnsRead k x r
+  pub names-refused : (k : Sort) (x : List ℕ) → namesLineFault k x ≡ breaks m d → ColumnsRead k x r
   names-refused k x f =
       record {
         fault = fault-given ∙ sym f;
@@ -367,22 +372,22 @@ module _ (r : Columns) (m c d : ℕ) (g : 0 < m) (p : r .number ≡ m) (q : r .c
 
 -- ---- the rules of the names line in their order
 module _ (k : Sort) (x : List ℕ) where
-  pub rules-names : (m c : ℕ) → nameFaults 1 [] (pieces 44 x) ≡ breaks m c → namesRules k x ≡ breaks m c
+  pub rules-names : (m c : ℕ) → nameFault 1 [] (pieces 44 x) ≡ breaks m c → namesLineFault k x ≡ breaks m c
   rules-names m c e = names-rules k x ∙ rw e
 
-  module _ (e : nameFaults 1 [] (pieces 44 x) ≡ clean) where
-    pub rules-flags : (m c : ℕ) → flagFaults 1 (namesOf x) (pieces 44 x) ≡ breaks m c → namesRules k x ≡ breaks m c
+  module _ (e : nameFault 1 [] (pieces 44 x) ≡ clean) where
+    pub rules-flags : (m c : ℕ) → flagFault 1 (namesOf x) (pieces 44 x) ≡ breaks m c → namesLineFault k x ≡ breaks m c
     rules-flags m c f = names-rules k x ∙ rw (e, f)
 
-    pub rules-required : (b : Bool) → flagFaults 1 (namesOf x) (pieces 44 x) ≡ clean → hasAll (requiredNames k) (namesOf x) ≡ b → namesRules k x ≡ unless b 13 1
+    pub rules-required : (b : Bool) → flagFault 1 (namesOf x) (pieces 44 x) ≡ clean → hasAll (requiredNames k) (namesOf x) ≡ b → namesLineFault k x ≡ unless b 13 1
     rules-required b f h = names-rules k x ∙ rw (e, f, h)
 
 -- ---- what the kinds say of the whole line
 module _ (x : List ℕ) (r : Columns) where
-  pub flags-clean : KindsRead x r → r .number ≡ 0 → flagFaults 1 (namesOf x) (pieces 44 x) ≡ clean
+  pub flags-clean : KindsRead x r → r .number ≡ 0 → flagFault 1 (namesOf x) (pieces 44 x) ≡ clean
   flags-clean w z = sym (w .fault) ∙ ap (λ (n : ℕ). asFault n (r .column)) z
 
-  module _ (k : Sort) (e : nameFaults 1 [] (pieces 44 x) ≡ clean) (w : KindsRead x r) where
+  module _ (k : Sort) (e : nameFault 1 [] (pieces 44 x) ≡ clean) (w : KindsRead x r) where
     pub names-flagged : (r .number ≡ 0 → ⊥) → ColumnsRead k x r
     names-flagged n =
         let g : 0 < r .number = omega arith in
@@ -412,19 +417,19 @@ over-none c zero (t ∷ ts) h = absurd (not-suc-le-zero h)
 over-none c (suc m) (t ∷ ts) h = over-none (c + length t + 1) m ts (le-of-suc-le-suc h)
 
 over-one : (c m : ℕ) (ts : List (List ℕ)) → m < length ts → overFault c m ts ≡ breaks 11 (startOf c ts m)
-unfolding startOf overFault
+unfolding overFault
 over-one c m [] h = absurd (not-suc-le-zero h)
-over-one c zero (t ∷ ts) h = refl
-over-one c (suc m) (t ∷ ts) h = over-one (c + length t + 1) m ts (le-of-suc-le-suc h)
+over-one c zero (t ∷ ts) h = ap (breaks 11) (sym (start-first c (t ∷ ts)))
+over-one c (suc m) (t ∷ ts) h = over-one (c + length t + 1) m ts (le-of-suc-le-suc h) ∙ ap (breaks 11) (sym (start-later c t ts m))
 
-abbrev nameFault : (ℕ → ℕ) → Fault → NameFault → Fault
-nameFault col f Clean = f
-nameFault col f (Bad k) = breaks 10 (col k)
-nameFault col f (Repeated k) = breaks 9 (col k)
+abbrev foundFaultOf : (ℕ → ℕ) → Fault → NameFault → Fault
+foundFaultOf col f Clean = f
+foundFaultOf col f (Bad k) = breaks 10 (col k)
+foundFaultOf col f (Repeated k) = breaks 9 (col k)
 
 names-faults : (col : ℕ → ℕ) (c : ℕ) (earlier ts : List (List ℕ)) (m b : ℕ) → length earlier ≡ b → b + m ≡ 256 → ((j : ℕ) → col (b + j) ≡ startOf c ts j)
-    → nameFaults c earlier ts ≡ nameFault col (overFault c m ts) (faultIn earlier (take m (map trim ts)) b)
-unfolding nameFaults nameList firstOf faultIn startOf overFault
+    → nameFault c earlier ts ≡ foundFaultOf col (overFault c m ts) (faultIn earlier (take m (map trim ts)) b)
+unfolding nameFault nameRules firstOf faultIn overFault
 names-faults col c earlier [] zero b l g f = refl
 names-faults col c earlier [] (suc m) b l g f = refl
 names-faults col c earlier (t ∷ ts) zero b l g f = rw (le-ltb (length earlier) 256 (omega arith))
@@ -434,16 +439,16 @@ names-faults col c earlier (t ∷ ts) (suc m) b l g f =
     (names-faults col (c + length t + 1) (earlier ++ trim t ∷ []) ts m (suc b) (length-append earlier (trim t ∷ []) ∙ omega arith) (omega arith) (λ j. later j)))
   where
     here : col b ≡ c
-    here = let q : b ≡ b + 0 = omega arith in ap col q ∙ f 0
+    here = let q : b ≡ b + 0 = omega arith in ap col q ∙ f 0 ∙ start-first c (t ∷ ts)
 
     later : (j : ℕ) → col (suc b + j) ≡ startOf (c + length t + 1) ts j
-    later j = let q : suc b + j ≡ b + suc j = omega arith in ap col q ∙ f (suc j)
+    later j = let q : suc b + j ≡ b + suc j = omega arith in ap col q ∙ f (suc j) ∙ start-later c t ts j
 
     go : (p q : Bool)
-        → nameFaults (c + length t + 1) (earlier ++ trim t ∷ []) ts
-        ≡ nameFault col (overFault (c + length t + 1) m ts) (faultIn (earlier ++ trim t ∷ []) (take m (map trim ts)) (suc b))
-        → ((unless p 10 c) then (unless (not q) 9 c) then nameFaults (c + length t + 1) (earlier ++ trim t ∷ []) ts)
-        ≡ nameFault col (overFault (c + length t + 1) m ts)
+        → nameFault (c + length t + 1) (earlier ++ trim t ∷ []) ts
+        ≡ foundFaultOf col (overFault (c + length t + 1) m ts) (faultIn (earlier ++ trim t ∷ []) (take m (map trim ts)) (suc b))
+        → ((unless p 10 c) then (unless (not q) 9 c) then nameFault (c + length t + 1) (earlier ++ trim t ∷ []) ts)
+        ≡ foundFaultOf col (overFault (c + length t + 1) m ts)
         (cond p (cond q (Repeated b) (faultIn (earlier ++ trim t ∷ []) (take m (map trim ts)) (suc b))) (Bad b))
     go false q h = ap (breaks 10) (sym here)
     go true true h = ap (breaks 9) (sym here)
@@ -460,11 +465,11 @@ module _ (s : List ℕ) (at : ℕ) (r : Cells) (w : CellsFound s at r) (f : Name
           ∙ sym (take-all 256 (map trim (pieces 44 (lineAt s at))) (omega (arith, w .placed .few)))
       go false z = ap (λ (n : ℕ). take n (map trim (pieces 44 (lineAt s at)))) (w .more (eqb-false (r .over) 0 z) .0)
 
-  faults-found : nameFaults 1 [] (pieces 44 (lineAt s at)) ≡ nameFault (startOf 1 (pieces 44 (lineAt s at))) (overFault 1 256 (pieces 44 (lineAt s at))) f
+  faults-found : nameFault 1 [] (pieces 44 (lineAt s at)) ≡ foundFaultOf (startOf 1 (pieces 44 (lineAt s at))) (overFault 1 256 (pieces 44 (lineAt s at))) f
   faults-found =
       names-faults (startOf 1 (pieces 44 (lineAt s at))) 1 [] (pieces 44 (lineAt s at)) 256 0 refl refl
       (λ j. let q : 0 + j ≡ j = omega arith in ap (startOf 1 (pieces 44 (lineAt s at))) q)
-      ∙ ap (nameFault (startOf 1 (pieces 44 (lineAt s at))) (overFault 1 256 (pieces 44 (lineAt s at))))
+      ∙ ap (foundFaultOf (startOf 1 (pieces 44 (lineAt s at))) (overFault 1 256 (pieces 44 (lineAt s at))))
       (ap (λ (l : List (List ℕ)). faultIn [] l 0) (sym (w .placed .names ∙ first-names)) ∙ sym e)
 
   index-within : Within f (r .count)
@@ -479,18 +484,18 @@ module _ (s : List ℕ) (at : ℕ) (r : Cells) (w : CellsFound s at r) (f : Name
   pub repeated-within : (k : ℕ) → f ≡ Repeated k → k < r .count
   repeated-within k p = rw p at index-within
 
-  pub bad-found : (k : ℕ) → f ≡ Bad k → nameFaults 1 [] (pieces 44 (lineAt s at)) ≡ breaks 10 (startOf 1 (pieces 44 (lineAt s at)) k)
+  pub bad-found : (k : ℕ) → f ≡ Bad k → nameFault 1 [] (pieces 44 (lineAt s at)) ≡ breaks 10 (startOf 1 (pieces 44 (lineAt s at)) k)
   bad-found k p = faults-found ∙ rw p
 
-  pub repeated-found : (k : ℕ) → f ≡ Repeated k → nameFaults 1 [] (pieces 44 (lineAt s at)) ≡ breaks 9 (startOf 1 (pieces 44 (lineAt s at)) k)
+  pub repeated-found : (k : ℕ) → f ≡ Repeated k → nameFault 1 [] (pieces 44 (lineAt s at)) ≡ breaks 9 (startOf 1 (pieces 44 (lineAt s at)) k)
   repeated-found k p = faults-found ∙ rw p
 
   module _ (p : f ≡ Clean) where
-    pub many-found : (r .over ≡ 0 → ⊥) → nameFaults 1 [] (pieces 44 (lineAt s at)) ≡ breaks 11 (startOf 1 (pieces 44 (lineAt s at)) 256)
+    pub many-found : (r .over ≡ 0 → ⊥) → nameFault 1 [] (pieces 44 (lineAt s at)) ≡ breaks 11 (startOf 1 (pieces 44 (lineAt s at)) 256)
     many-found n = faults-found ∙ rw p (over-one 1 256 (pieces 44 (lineAt s at)) (w .more n .1))
 
     module _ (z : r .over ≡ 0) where
-      pub none-found : nameFaults 1 [] (pieces 44 (lineAt s at)) ≡ clean
+      pub none-found : nameFault 1 [] (pieces 44 (lineAt s at)) ≡ clean
       none-found = faults-found ∙ rw p (over-none 1 256 (pieces 44 (lineAt s at)) (omega (arith, w .all z, w .placed .few)))
 
       names-found : namesAt s (r .count) (r .starts) (r .ends) ≡ namesOf (lineAt s at)

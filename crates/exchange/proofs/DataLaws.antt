@@ -17,26 +17,27 @@ use Rattle.exchange.specs.declared.rows.Row.{Row}
 use Rattle.exchange.specs.declared.rows.Data.{Data}
 use Rattle.exchange.specs.Faults.{Fault, clean, breaks, firstOf}
 use Rattle.exchange.specs.Columns.{kindsOf}
-use Rattle.exchange.specs.Rows.{isEndData, boundList}
-use Rattle.exchange.specs.Places.{Table, Place, rows, after, stopped, endList, endRules, step, refused, run}
-use Rattle.exchange.specs.RuleWords.{lineRules, rowRules, boundFault}
+use Rattle.exchange.specs.Rows.{isEndData, boundRules}
+use Rattle.exchange.specs.Places.{Table, Place, rows, after, stopped, lastPieceRules, endRules, step, refused, run}
+use Rattle.exchange.specs.Inner.Faults.{lineFault, rowFault, boundFault, asFault}
 use Rattle.exchange.specs.Profiles.{missingInRow, missingInRows, Key, keyOf, sameKey, bordersFrom, runCount}
-use Rattle.exchange.specs.Walks.{linesFrom, lineOf, asFault, textIn, rowsFrom, DataRead}
-use Rattle.exchange.specs.RowsWords.{spanText, keyAt, cellsOf, RowRead, dataRefused, border, withRow, DataHeld, RowAdded, DataEnded, LineRead}
+use Rattle.exchange.specs.Inner.Lines.{linesFrom, lineOf}
+use Rattle.exchange.specs.Inner.Names.{textIn}
+use Rattle.exchange.specs.Inner.Rows.{spanText, keyAt, lineCells, RowRead, dataRefused, border, withRow, DataHeld, RowAdded, DataEnded, LineRead, rowsFrom, DataRead}
 use Rattle.exchange.proofs.RowLaws.{none-within, fault-number}
 use Rattle.exchange.proofs.RuleLaws.{end-step, row-step}
 use Rattle.exchange.proofs.RunLaws.{run-stopped, run-line, lines-end, lines-more, line-clean, line-broken, piece-take}
 
 -- ---- one line of the data place
 module _ (l : ℕ) (t : Table) (n : ℕ) (x : List ℕ) where
-  step-broken : (a c : ℕ) → lineRules true x ≡ breaks a c → step l (rows t n) x ≡ stopped a l c
+  step-broken : (a c : ℕ) → lineFault true x ≡ breaks a c → step l (rows t n) x ≡ stopped a l c
   step-broken a c h = go (isEndData x) refl
     where
       go : (b : Bool) → isEndData x ≡ b → step l (rows t n) x ≡ stopped a l c
       go true q = end-step l t n x q ∙ rw h
       go false q = row-step l t n x q ∙ rw h
 
-  module _ (h : lineRules true x ≡ clean) where
+  module _ (h : lineFault true x ≡ clean) where
     step-none : isEndData x ≡ true → n ≡ 0 → step l (rows t n) x ≡ stopped 19 l 1
     step-none y z = end-step l t n x y ∙ rw (h, eq-eqb n 0 z)
 
@@ -47,11 +48,11 @@ module _ (l : ℕ) (t : Table) (n : ℕ) (x : List ℕ) where
     step-full y z = row-step l t n x y ∙ rw (h, le-ltb n 1000000 z)
 
     module _ (y : isEndData x ≡ false) (z : n < 1000000) where
-      step-refused : (a c : ℕ) → rowRules (kindsOf (t .names)) (pieces 44 x) ≡ breaks a c → step l (rows t n) x ≡ stopped a l c
+      step-refused : (a c : ℕ) → rowFault (kindsOf (t .names)) (pieces 44 x) ≡ breaks a c → step l (rows t n) x ≡ stopped a l c
       step-refused a c f = row-step l t n x y ∙ rw (h, lt-ltb n 1000000 z) (rw f)
 
-      step-row : rowRules (kindsOf (t .names)) (pieces 44 x) ≡ clean → step l (rows t n) x ≡ rows t (n + 1)
-      unfolding boundFault boundList firstOf
+      step-row : rowFault (kindsOf (t .names)) (pieces 44 x) ≡ clean → step l (rows t n) x ≡ rows t (n + 1)
+      unfolding boundFault boundRules firstOf
       step-row f = row-step l t n x y ∙ rw (h, lt-ltb n 1000000 z) (rw f)
 
 -- ---- another row
@@ -90,7 +91,7 @@ module _ (x y : Key) where
 
 -- ---- the line from i to its line feed at e, which keeps rules 1 to 5
 pub record LineHeld (s : List ℕ) (i e : ℕ) : Type 0 where
-  pub rules : lineRules true (lineAt s i) ≡ clean
+  pub rules : lineFault true (lineAt s i) ≡ clean
   pub room : i + length (lineAt s i) < length s
   pub end : e ≡ i + length (lineAt s i)
   pub feed : getD s e 0 ≡ 10
@@ -181,8 +182,8 @@ module _ (s ks : List ℕ) (d : Data) where
 
       module _ (z : d .rows < 1000000) (w : Row) (v : RowRead s ks (d .at) w) where
         rules-of : (t : Table) → kindsOf (t .names) ≡ ks → (f : Fault) → asFault (w .number) (w .at - d .at + 1) ≡ f
-            → rowRules (kindsOf (t .names)) (pieces 44 (lineAt s (d .at))) ≡ f
-        rules-of t k f e = ap (λ (js : List ℕ). rowRules js (pieces 44 (lineAt s (d .at)))) k ∙ sym (v .fault) ∙ e
+            → rowFault (kindsOf (t .names)) (pieces 44 (lineAt s (d .at))) ≡ f
+        rules-of t k f e = ap (λ (js : List ℕ). rowFault js (pieces 44 (lineAt s (d .at)))) k ∙ sym (v .fault) ∙ e
 
         pub line-odd : (w .number ≡ 0 → ⊥) → LineRead s ks d (dataRefused d (w .number) (w .at - d .at + 1))
         line-odd n = line-stopped (w .number) (w .at - d .at + 1) n (λ t l k.
@@ -258,7 +259,7 @@ so-far-none s ks i h = record {
 
 module _ (s ks : List ℕ) (i : ℕ) (d : Data) (x : SoFar s ks i d) where
   module _ (r : Data) (a : RowAdded s ks d r) where
-    rows-more : (n : ℕ) → rowsFrom s (d .at) (suc n) ≡ cellsOf s (d .at) ∷ rowsFrom s (r .at) n
+    rows-more : (n : ℕ) → rowsFrom s (d .at) (suc n) ≡ lineCells s (d .at) ∷ rowsFrom s (r .at) n
     rows-more n = ap (λ (ps : List (List ℕ)). take (suc n) (map (pieces 44) ps)) (a .lines)
 
     count-more : (n : ℕ) → r .rows + n ≡ d .rows + suc n
@@ -267,15 +268,15 @@ module _ (s ks : List ℕ) (i : ℕ) (d : Data) (x : SoFar s ks i d) where
     missing-more : (n : ℕ) → missingInRows ks (rowsFrom s i (r .rows + n)) ≡ r .missing + missingInRows ks (rowsFrom s (r .at) n)
     unfolding missingInRows
     missing-more n =
-        let e : missingInRows ks (rowsFrom s (d .at) (suc n)) ≡ missingInRow ks (cellsOf s (d .at)) + missingInRows ks (rowsFrom s (r .at) n) = ap (missingInRows ks) (rows-more n) in
+        let e : missingInRows ks (rowsFrom s (d .at) (suc n)) ≡ missingInRow ks (lineCells s (d .at)) + missingInRows ks (rowsFrom s (r .at) n) = ap (missingInRows ks) (rows-more n) in
         ap (λ (m : ℕ). missingInRows ks (rowsFrom s i m)) (count-more n) ∙ x .missing (suc n) ∙ omega (arith, e, a .missing)
 
-    borders-more : (ys : List Key) → bordersAfter (r .rows) (keyAt s (r .last)) ys ≡ bordersFrom (keyOf ks (cellsOf s (d .at))) ys
+    borders-more : (ys : List Key) → bordersAfter (r .rows) (keyAt s (r .last)) ys ≡ bordersFrom (keyOf ks (lineCells s (d .at))) ys
     borders-more ys = rw (lt-ltb 0 (r .rows) (omega (arith, a .counted))) (ap (λ (k : Key). bordersFrom k ys) (a .last))
 
     profiles-more : (n : ℕ) → runCount (map (keyOf ks) (rowsFrom s i (r .rows + n))) ≡ r .profiles + bordersAfter (r .rows) (keyAt s (r .last)) (map (keyOf ks) (rowsFrom s (r .at) n))
     profiles-more n =
-        let y = keyOf ks (cellsOf s (d .at)) in
+        let y = keyOf ks (lineCells s (d .at)) in
         let ys = map (keyOf ks) (rowsFrom s (r .at) n) in
         let e : bordersAfter (d .rows) (keyAt s (d .last)) (map (keyOf ks) (rowsFrom s (d .at) (suc n))) ≡ border s d y + bordersFrom y ys
         = ap (λ (rs : List (List (List ℕ))). bordersAfter (d .rows) (keyAt s (d .last)) (map (keyOf ks) rs)) (rows-more n) ∙ borders-row (d .rows) (keyAt s (d .last)) y ys in
@@ -312,7 +313,7 @@ module _ (s ks : List ℕ) (i : ℕ) (d : Data) (x : SoFar s ks i d) where
   }
 
   pub so-far-out : length s ≤ d .at → DataRead s ks i (dataRefused d 14 1)
-  unfolding run endRules endList firstOf
+  unfolding run endRules lastPieceRules firstOf
   so-far-out h = record {
     stop = λ t l k z. x .on t l k ∙ ap (run (l + d .rows) (rows t (d .rows))) (lines-end s (d .at) h);
     on = λ t l k z. absurd (omega arith);

@@ -14,16 +14,16 @@ use Rattle.text.specs.Cells.{firstPiece, laterPieces, pieces, lineAt, cellAt, c
 use Rattle.text.specs.declared.Span.{Span}
 use Rattle.text.proofs.CellLaws.{stop-moved, stop-short, cellEnd-within, cellEnd-from, cellEnd-parts, pieces-last, pieces-more}
 use Rattle.text.specs.Inner.Scans.{Stop}
-use Rattle.exchange.specs.Faults.{clean, breaks, _then_, unless, firstOf}
+use Rattle.exchange.specs.Faults.{clean, _then_, unless, firstOf}
 use Rattle.exchange.specs.Columns.{kindOfName, kindsOf}
-use Rattle.exchange.specs.Rows.{rowList}
+use Rattle.exchange.specs.Rows.{rowRules}
 use Rattle.exchange.specs.Places.{Table, accepted, outcomeOf}
-use Rattle.exchange.specs.RuleWords.{cellFaults, rowRules}
+use Rattle.exchange.specs.Inner.Faults.{cellFault, rowFault}
 use Rattle.exchange.specs.Grid.{starts, lineStart, cellSpan}
 use Rattle.exchange.specs.Profiles.{grid}
-use Rattle.exchange.specs.Walks.{linesFrom}
+use Rattle.exchange.specs.Inner.Lines.{linesFrom}
 use Rattle.exchange.proofs.RunLaws.{lines-more, lines-cut, line-feed}
-use Rattle.exchange.proofs.PlaceLaws.{span-first, span-more}
+use Rattle.exchange.proofs.GridWalkLaws.{span-first, span-more}
 use Rattle.exchange.proofs.AcceptLaws.{RowKept, rows-kept}
 
 -- how many bytes pieces of the given lengths make, one byte between each two
@@ -103,11 +103,11 @@ getD-mapped [] k h = absurd (not-suc-le-zero h)
 getD-mapped (l ∷ ls) zero h = refl
 getD-mapped (l ∷ ls) (suc k) h = getD-mapped ls k (le-of-suc-le-suc h)
 
-pub cells-many : (ks : List ℕ) (ts : List (List ℕ)) → rowRules ks ts ≡ clean → length ts ≡ length ks
-unfolding rowRules cellFaults rowList firstOf
+pub cells-many : (ks : List ℕ) (ts : List (List ℕ)) → rowFault ks ts ≡ clean → length ts ≡ length ks
+unfolding rowFault cellFault rowRules firstOf
 cells-many ks ts e = go (eqb (length ts) (length ks)) refl e
   where
-    go : (z : Bool) → eqb (length ts) (length ks) ≡ z → ((unless z 15 1) then (cellFaults 1 ks ts)) ≡ clean → length ts ≡ length ks
+    go : (z : Bool) → eqb (length ts) (length ks) ≡ z → ((unless z 15 1) then (cellFault 1 ks ts)) ≡ clean → length ts ≡ length ks
     go true q e = eqb-true (length ts) (length ks) q
     go false q e = let z : _≡_ {A = ℕ} 0 1 = cc in absurd (omega arith)
 
@@ -125,16 +125,16 @@ pub record RowAt (s : List ℕ) (t : Table) (r i : ℕ) : Type 0 where
   pub feed : Stop 44 s i (i + length (lineAt s i))
   pub cells : pieces 44 (lineAt s i) ≡ getD (grid s) (t .line + r) []
   pub many : length (pieces 44 (lineAt s i)) ≡ length (t .names)
-  pub rules : rowRules (kindsOf (t .names)) (pieces 44 (lineAt s i)) ≡ clean
+  pub rules : rowFault (kindsOf (t .names)) (pieces 44 (lineAt s i)) ≡ clean
 
 -- from its line in the file
 row-made : (s : List ℕ) (t : Table) (r i : ℕ) → i ≡ starts (map length (pieces 10 s)) (t .line + r) → linesFrom s i ≡ drop (t .line + r) (pieces 10 s) → suc (t .line + r) < length (pieces 10 s)
-    → rowRules (kindsOf (t .names)) (pieces 44 (getD (pieces 10 s) (t .line + r) [])) ≡ clean → RowAt s t r i
+    → rowFault (kindsOf (t .names)) (pieces 44 (getD (pieces 10 s) (t .line + r) [])) ≡ clean → RowAt s t r i
 row-made s t r i p e h c =
     let x : lineAt s i ≡ getD (pieces 10 s) (t .line + r) [] = ap (λ (ls : List (List ℕ)). getD ls 0 []) e ∙ getD-drop (t .line + r) (pieces 10 s) 0 [] ∙ ap (λ (k : ℕ). getD (pieces 10 s) k []) (add-zero (t .line + r)) in
     let two : 1 < length (linesFrom s i) = subst (λ (ls : List (List ℕ)). 1 < length ls) (sym e) (rw length-drop (omega arith)) in
     let far : i + length (lineAt s i) < length s = line-fed s i two in
-    let g : rowRules (kindsOf (t .names)) (pieces 44 (lineAt s i)) ≡ clean = subst (λ (y : List ℕ). rowRules (kindsOf (t .names)) (pieces 44 y) ≡ clean) (sym x) c in
+    let g : rowFault (kindsOf (t .names)) (pieces 44 (lineAt s i)) ≡ clean = subst (λ (y : List ℕ). rowFault (kindsOf (t .names)) (pieces 44 y) ≡ clean) (sym x) c in
     record {
       place = p;
       feed = record { inside = omega arith; room = far; feed = line-feed s i far; parts = refl };
@@ -171,8 +171,8 @@ row-at s t n d r e h q l = rw (start-in s d r in-lines) (row-made s t r (d + sta
     lines-is : linesFrom s (d + starts (map length (linesFrom s d)) r) ≡ drop (t .line + r) (pieces 10 s)
     lines-is = lines-at r s d h in-lines ∙ ap (drop r) q ∙ drop-drop r (t .line) (pieces 10 s)
 
-    rules : rowRules (kindsOf (t .names)) (pieces 44 (getD (pieces 10 s) (t .line + r) [])) ≡ clean
-    rules = subst (λ (x : List ℕ). rowRules (kindsOf (t .names)) (pieces 44 x) ≡ clean) (getD-drop (t .line) (pieces 10 s) r []) (k .cells)
+    rules : rowFault (kindsOf (t .names)) (pieces 44 (getD (pieces 10 s) (t .line + r) [])) ≡ clean
+    rules = subst (λ (x : List ℕ). rowFault (kindsOf (t .names)) (pieces 44 x) ≡ clean) (getD-drop (t .line) (pieces 10 s) r []) (k .cells)
 
 -- ---- a cell of a line
 pub record SpanAt (s : List ℕ) (i e k : ℕ) : Type 0 where

@@ -2,13 +2,13 @@
 use Prim.Native.Nat.{ℕ, zero, suc, _+_, _-_, _≤_, _<_}
 use mathlib.Core.Path.{_≡_, refl, sym, ap, _∙_}
 use mathlib.Core.List.{List, [], _∷_, _++_}
-use mathlib.Core.Bool.{Bool, true, false, cond, not, _||_}
+use mathlib.Core.Bool.{Bool, true, false, cond, not}
 use native.Mathlib.Numerals.{add-one}
 use native.Mathlib.Omega.{arith}
 use lib.ListN.{length, getD, take, drop, set}
 use lib.Seq.{slice, take-take, drop-drop}
 use lib.Dec.{eqb, ltb, leb}
-use borrow.Author.Tests.{eq-eqb, ne-eqb, lt-ltb, le-ltb, le-leb, lt-leb, ltb-true, ltb-false, leb-true}
+use borrow.Author.Tests.{eq-eqb, ne-eqb, lt-ltb, le-ltb, le-leb, lt-leb, leb-true}
 use Rattle.text.specs.declared.Judged.{Judged}
 use Rattle.text.specs.Bytes.{bytes, equal}
 use Rattle.text.specs.Cells.{firstPiece, lineAt, cellAt, cellEnd}
@@ -24,11 +24,13 @@ use Rattle.text.proofs.SpaceLaws.{slice-take, span-bytes, trim-fits}
 use Rattle.text.proofs.JudgeLaws.{judged-stop, whole-stop}
 use Rattle.exchange.specs.declared.headers.Header.{Header}
 use Rattle.exchange.specs.Faults.{Fault, clean, breaks, _then_, unless, kindFault, member, placeIn, firstOf}
-use Rattle.exchange.specs.LineRules.{tooLong, lineList, byteList}
-use Rattle.exchange.specs.Headers.{Header as FileHeader, headerOf, rawName, nameOf, valueOf, namesIn, nameRule, countIn, headersSaid, headerKind, headerList}
-use Rattle.exchange.specs.RuleWords.{lineRules, headerRules}
-use Rattle.exchange.specs.Walks.{lineFault, lineFor, lineOf, asFault, textIn, namesAt, headersAt}
-use Rattle.exchange.specs.HeadersWords.{Parted, namedFault, headerFault, HeaderRead}
+use Rattle.exchange.specs.LineRules.{lineTooLong, lineRules, byteRules}
+use Rattle.exchange.specs.Headers.{Header as FileHeader, headerOf, rawName, nameOf, valueOf, namesIn, headerNameRule, countIn, headersSaid, headerKind, headerRules}
+use Rattle.exchange.specs.Inner.Faults.{lineFault, headerFault, asFault}
+use Rattle.exchange.specs.Inner.Lines.{lineFaultAt, lineFor, lineOf}
+use Rattle.exchange.specs.Inner.Names.{textIn, namesAt}
+use Rattle.exchange.specs.Inner.Headers.{Parted, namedFaultAt, headerFaultAt, HeaderRead, headersAt}
+use Rattle.exchange.proofs.NameLaws.{place-member}
 use Rattle.exchange.proofs.RuleLaws.{then-none}
 use Rattle.exchange.proofs.RunLaws.{piece-in, piece-take, line-feed, line-clean}
 
@@ -124,27 +126,27 @@ then-second f g k e = let h = then-clean f g e in rw (h .0, h .1)
 
 -- ---- rules 1 to 5, which `line_at` gives by their number
 module _ (control : Bool) (s : List ℕ) (i : ℕ) where
-  pub line-zero : lineOf control s i .number ≡ 0 → lineFault control s i ≡ clean
-  unfolding lineFault
+  pub line-zero : lineOf control s i .number ≡ 0 → lineFaultAt control s i ≡ clean
+  unfolding lineFaultAt
   line-zero z = let h = line-clean control s i z in rw (lt-ltb _ _ (h .1)) (h .0)
 
-  pub zero-line : lineFault control s i ≡ clean → lineOf control s i .number ≡ 0
+  pub zero-line : lineFaultAt control s i ≡ clean → lineOf control s i .number ≡ 0
   unfolding lineOf
   zero-line e = rw e
 
-  line-fault : asFault (lineOf control s i .number) (lineOf control s i .column) ≡ lineFault control s i
+  line-fault : asFault (lineOf control s i .number) (lineOf control s i .column) ≡ lineFaultAt control s i
   unfolding lineOf
-  line-fault = go (lineFault control s i) refl
+  line-fault = go (lineFaultAt control s i) refl
     where
-      go : (f : Fault) → lineFault control s i ≡ f → asFault (lineFor f (i + length (lineAt s i)) .number) (lineFor f (i + length (lineAt s i)) .column) ≡ f
+      go : (f : Fault) → lineFaultAt control s i ≡ f → asFault (lineFor f (i + length (lineAt s i)) .number) (lineFor f (i + length (lineAt s i)) .column) ≡ f
       go clean p = refl
       go (breaks zero c) p = absurd (breaks-clean 0 c (sym p ∙ line-zero (rw p)))
       go (breaks (suc n) c) p = refl
 
 -- a line that keeps them is short
-line-short : (control : Bool) (x : List ℕ) → lineRules control x ≡ clean → length x ≤ 8192
-unfolding lineRules lineList byteList firstOf
-line-short control x e = go (leb (length x) 8192) refl (then-clean (tooLong x) _ e .0)
+line-short : (control : Bool) (x : List ℕ) → lineFault control x ≡ clean → length x ≤ 8192
+unfolding lineFault lineRules byteRules firstOf
+line-short control x e = go (leb (length x) 8192) refl (then-clean (lineTooLong x) _ e .0)
   where
     go : (b : Bool) → leb (length x) 8192 ≡ b → unless b 1 8193 ≡ clean → length x ≤ 8192
     go true h k = leb-true (length x) 8192 h
@@ -152,17 +154,17 @@ line-short control x e = go (leb (length x) 8192) refl (then-clean (tooLong x) _
 
 -- ---- the name's rule
 module _ (x : List ℕ) where
-  name-none : length x ≤ length (rawName x) → nameRule x ≡ breaks 8 1
-  unfolding nameRule
+  name-none : length x ≤ length (rawName x) → headerNameRule x ≡ breaks 8 1
+  unfolding headerNameRule
   name-none h = rw (le-ltb (length (rawName x)) (length x) h)
 
   module _ (h : length (rawName x) < length x) where
-    name-long : 64 < length (nameOf x) → nameRule x ≡ breaks 8 1
-    unfolding nameRule
+    name-long : 64 < length (nameOf x) → headerNameRule x ≡ breaks 8 1
+    unfolding headerNameRule
     name-long l = rw (lt-ltb (length (rawName x)) (length x) h, lt-leb (length (nameOf x)) 64 l)
 
-    name-by : (b : Bool) → length (nameOf x) ≤ 64 → isName (nameOf x) ≡ b → nameRule x ≡ unless b 8 1
-    unfolding nameRule
+    name-by : (b : Bool) → length (nameOf x) ≤ 64 → isName (nameOf x) ≡ b → headerNameRule x ≡ unless b 8 1
+    unfolding headerNameRule
     name-by b l e = rw (lt-ltb (length (rawName x)) (length x) h, le-leb (length (nameOf x)) 64 l, e)
 
 -- a line refused by a number
@@ -172,16 +174,16 @@ read-refused f s i r n c h z e =
 
 module _ (s : List ℕ) (i : ℕ) (r : Header) where
   pub named-line : (n c : ℕ) → (r .number ≡ n) × (r .column ≡ c) → (n ≡ 0 → ⊥) → n ≡ lineOf true s i .number → c ≡ lineOf true s i .column
-      → HeaderRead (namedFault s i) s i r
+      → HeaderRead (namedFaultAt s i) s i r
   named-line n c h z en ec =
-      read-refused (namedFault s i) s i r n c h z
-      (then-broken n c (lineFault true s i) (nameRule (lineAt s i)) z (rw (en, ec) (line-fault true s i)))
+      read-refused (namedFaultAt s i) s i r n c h z
+      (then-broken n c (lineFaultAt true s i) (headerNameRule (lineAt s i)) z (rw (en, ec) (line-fault true s i)))
 
   module _ (z : lineOf true s i .number ≡ 0) (q e : ℕ) (ee : e ≡ i + length (lineAt s i)) (eq : q ≡ i + length (rawName (lineAt s i))) where
-    named-bad : (r .number ≡ 8) × (r .column ≡ 1) → nameRule (lineAt s i) ≡ breaks 8 1 → HeaderRead (namedFault s i) s i r
-    named-bad h b = read-refused (namedFault s i) s i r 8 1 h (λ y. omega arith) (rw (line-zero true s i z) (sym b))
+    named-bad : (r .number ≡ 8) × (r .column ≡ 1) → headerNameRule (lineAt s i) ≡ breaks 8 1 → HeaderRead (namedFaultAt s i) s i r
+    named-bad h b = read-refused (namedFaultAt s i) s i r 8 1 h (λ y. omega arith) (rw (line-zero true s i z) (sym b))
 
-    pub named-none : (r .number ≡ 8) × (r .column ≡ 1) → q ≡ e → HeaderRead (namedFault s i) s i r
+    pub named-none : (r .number ≡ 8) × (r .column ≡ 1) → q ≡ e → HeaderRead (namedFaultAt s i) s i r
     named-none h k = named-bad h (name-none (lineAt s i) (omega arith))
 
     module _ (k : q ≡ e → ⊥) where
@@ -203,13 +205,13 @@ module _ (s : List ℕ) (i : ℕ) (r : Header) where
             let l = leb-true 1 (length t) (both-true (leb 1 (length t)) _ b .0) in
             omega (arith, ap length is-name, trim-fits (rawName (lineAt s i)))
 
-        pub named-long : (r .number ≡ 8) × (r .column ≡ 1) → 64 < length t → HeaderRead (namedFault s i) s i r
+        pub named-long : (r .number ≡ 8) × (r .column ≡ 1) → 64 < length t → HeaderRead (namedFaultAt s i) s i r
         named-long h l = named-bad h (name-long (lineAt s i) shorter (rw is-name at l))
 
-        pub named-wrong : (r .number ≡ 8) × (r .column ≡ 1) → length t ≤ 64 → isName t ≡ false → HeaderRead (namedFault s i) s i r
+        pub named-wrong : (r .number ≡ 8) × (r .column ≡ 1) → length t ≤ 64 → isName t ≡ false → HeaderRead (namedFaultAt s i) s i r
         named-wrong h l b = named-bad h (name-by (lineAt s i) shorter false (rw is-name at l) (rw is-name at b))
 
-        pub named-good : (r .number ≡ 0) × (r .column ≡ 0) → r .equals ≡ q → r .end ≡ e → length t ≤ 64 → isName t ≡ true → HeaderRead (namedFault s i) s i r
+        pub named-good : (r .number ≡ 0) × (r .column ≡ 0) → r .equals ≡ q → r .end ≡ e → length t ≤ 64 → isName t ≡ true → HeaderRead (namedFaultAt s i) s i r
         named-good h hq he l b =
             record {
               fault = rw (h .0, line-zero true s i z) (sym (name-by (lineAt s i) shorter true (rw is-name at l) (rw is-name at b)));
@@ -264,26 +266,6 @@ module _ {s : List ℕ} {i q e : ℕ} (t : Parted s i q e) (n : List ℕ) (en : 
       said-good l = ap (λ (c : Bool). cond c (v .size) 0) (sym (le-leb (v .size) 64 l)) ∙ said-size
 
 -- ---- names by place
-pub names-length : (s : List ℕ) (n : ℕ) (bs es : List ℕ) → n ≤ length bs → n ≤ length es → length (namesAt s n bs es) ≡ n
-unfolding namesAt
-names-length s zero bs es h k = refl
-names-length s (suc n) [] es h k = absurd (omega arith)
-names-length s (suc n) (b ∷ bs) [] h k = absurd (omega arith)
-names-length s (suc n) (b ∷ bs) (e ∷ es) h k = ap suc (names-length s n bs es (omega arith) (omega arith))
-
-pub member-placed : (n : List ℕ) (xs : List (List ℕ)) → member n xs ≡ ltb (placeIn n xs) (length xs)
-unfolding member placeIn
-member-placed n [] = sym (le-ltb 0 0 (omega arith))
-member-placed n (x ∷ xs) = go (equal x n) (member-placed n xs)
-  where
-    go : (b : Bool) → member n xs ≡ ltb (placeIn n xs) (length xs) → (b || member n xs) ≡ ltb (cond b 0 (suc (placeIn n xs))) (suc (length xs))
-    go true h = sym (lt-ltb 0 (suc (length xs)) (omega arith))
-    go false h = h ∙ sym (below (ltb (placeIn n xs) (length xs)) refl)
-      where
-        below : (b : Bool) → ltb (placeIn n xs) (length xs) ≡ b → ltb (suc (placeIn n xs)) (suc (length xs)) ≡ b
-        below true e = lt-ltb (suc (placeIn n xs)) (suc (length xs)) (omega (arith, ltb-true (placeIn n xs) (length xs) e))
-        below false e = le-ltb (suc (placeIn n xs)) (suc (length xs)) (omega (arith, ltb-false (placeIn n xs) (length xs) e))
-
 pub headers-names : (s : List ℕ) (n : ℕ) (bs es : List ℕ) → namesIn (headersAt s n bs es) ≡ namesAt s n bs es
 unfolding headersAt namesAt
 headers-names s zero bs es = refl
@@ -320,23 +302,23 @@ unfolding headerKind
 kind-is r k t ks n e ek et es = e ∙ rw (ek, et, es)
 
 module _ (s : List ℕ) (i : ℕ) (earlier : List (List ℕ)) where
-  pub header-named : (h : Header) → HeaderRead (namedFault s i) s i h → (h .number ≡ 0 → ⊥) → HeaderRead (headerFault earlier s i) s i h
-  unfolding headerRules headerList firstOf
+  pub header-named : (h : Header) → HeaderRead (namedFaultAt s i) s i h → (h .number ≡ 0 → ⊥) → HeaderRead (headerFaultAt earlier s i) s i h
+  unfolding headerFault headerRules firstOf
   header-named h r z =
       record {
-        fault = then-first (h .number) (h .column) (lineFault true s i) (nameRule (lineAt s i)) _ z (r .fault);
+        fault = then-first (h .number) (h .column) (lineFaultAt true s i) (headerNameRule (lineAt s i)) _ z (r .fault);
         parted = r .parted;
         named = r .named;
       }
 
-  module _ (h : Header) (r : HeaderRead (namedFault s i) s i h) (z : h .number ≡ 0) where
-    rules-left : headerFault earlier s i
+  module _ (h : Header) (r : HeaderRead (namedFaultAt s i) s i h) (z : h .number ≡ 0) where
+    rules-left : headerFaultAt earlier s i
         ≡ (unless (not (member (nameOf (lineAt s i)) earlier)) 9 1
         then kindFault (judge (kindOf (headerKind (nameOf (lineAt s i)))) (valueOf (lineAt s i))) (length (rawName (lineAt s i)) + 2))
-    unfolding headerRules headerList firstOf
+    unfolding headerFault headerRules firstOf
     rules-left =
         let x = lineAt s i in
-        then-second (lineFault true s i) (nameRule x) _ (fault-clean (h .number) (h .column) _ (r .fault) z)
+        then-second (lineFaultAt true s i) (headerNameRule x) _ (fault-clean (h .number) (h .column) _ (r .fault) z)
         ∙ ap (λ (f : Fault). unless (not (member (nameOf x) earlier)) 9 1 then f) (then-none (kindFault (judge (kindOf (headerKind (nameOf x))) (valueOf x)) (length (rawName x) + 2)))
 
     module _ (t : List ℕ) (et : t ≡ textIn s i (h .equals)) (p n : ℕ) (ep : p ≡ placeIn t earlier) (en : length earlier ≡ n) where
@@ -344,25 +326,25 @@ module _ (s : List ℕ) (i : ℕ) (earlier : List (List ℕ)) where
       name-is = et ∙ part-name (r .parted z)
 
       member-is : member (nameOf (lineAt s i)) earlier ≡ ltb p n
-      member-is = ap (λ (x : List ℕ). member x earlier) (sym name-is) ∙ member-placed t earlier ∙ rw (en, ep)
+      member-is = ap (λ (x : List ℕ). member x earlier) (sym name-is) ∙ sym (place-member t earlier) ∙ rw (en, ep)
 
-      pub header-known : (g : Header) → (g .number ≡ 9) × (g .column ≡ 1) → p < n → HeaderRead (headerFault earlier s i) s i g
-      header-known g e l = read-refused (headerFault earlier s i) s i g 9 1 e (λ y. omega arith) (sym (rules-left ∙ rw (member-is, lt-ltb p n l)))
+      pub header-known : (g : Header) → (g .number ≡ 9) × (g .column ≡ 1) → p < n → HeaderRead (headerFaultAt earlier s i) s i g
+      header-known g e l = read-refused (headerFaultAt earlier s i) s i g 9 1 e (λ y. omega arith) (sym (rules-left ∙ rw (member-is, lt-ltb p n l)))
 
       module _ (l : n ≤ p) (k : ℕ) (ek : k ≡ headerKind (nameOf (lineAt s i))) (v : Judged) (ev : v ≡ judgedAt k 10 s (h .equals + 1) (h .end)) where
-        value-left : asFault (v .number) (length (rawName (lineAt s i)) + 2) ≡ headerFault earlier s i
+        value-left : asFault (v .number) (length (rawName (lineAt s i)) + 2) ≡ headerFaultAt earlier s i
         value-left =
             let x = lineAt s i in
-            let e : headerFault earlier s i ≡ kindFault (judge (kindOf k) (valueOf x)) (length (rawName x) + 2) = rules-left ∙ rw (member-is, le-ltb p n l, ek) in
+            let e : headerFaultAt earlier s i ≡ kindFault (judge (kindOf k) (valueOf x)) (length (rawName x) + 2) = rules-left ∙ rw (member-is, le-ltb p n l, ek) in
             kind-fault (cellEnd 10 s (h .equals + 1)) (judge (kindOf k) (valueOf x)) v (length (rawName x) + 2) (ev ∙ value-judged (r .parted z) k) ∙ sym e
 
-        pub header-value : (g : Header) → (g .number ≡ v .number) × (g .column ≡ (h .equals - i) + 2) → (v .number ≡ 0 → ⊥) → HeaderRead (headerFault earlier s i) s i g
+        pub header-value : (g : Header) → (g .number ≡ v .number) × (g .column ≡ (h .equals - i) + 2) → (v .number ≡ 0 → ⊥) → HeaderRead (headerFaultAt earlier s i) s i g
         header-value g e y =
             let w = r .parted z in
             let m : (h .equals - i) + 2 ≡ length (rawName (lineAt s i)) + 2 = omega (arith, w .equals) in
-            read-refused (headerFault earlier s i) s i g (v .number) ((h .equals - i) + 2) e y (rw m value-left)
+            read-refused (headerFaultAt earlier s i) s i g (v .number) ((h .equals - i) + 2) e y (rw m value-left)
 
-        pub header-good : v .number ≡ 0 → HeaderRead (headerFault earlier s i) s i h
+        pub header-good : v .number ≡ 0 → HeaderRead (headerFaultAt earlier s i) s i h
         header-good y =
             record {
               fault = r .fault ∙ fault-clean (h .number) (h .column) _ (r .fault) z ∙ sym (fault-clean (v .number) _ _ value-left y);

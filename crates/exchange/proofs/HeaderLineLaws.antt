@@ -8,8 +8,8 @@ use lib.ListN.{length, getD, set, length-append, length-drop}
 use lib.Seq.{getD-drop}
 use Rattle.text.specs.Cells.{pieces, lineAt}
 use Rattle.exchange.specs.Headers.{Header, headerOf}
-use Rattle.exchange.specs.Walks.{StartsAt, headersAt}
-use Rattle.exchange.specs.HeadersWords.{Parted, LineStands, HeaderLines, none, more}
+use Rattle.exchange.specs.Inner.Lines.{StartsAt}
+use Rattle.exchange.specs.Inner.Headers.{Parted, LineStands, HeaderLines, none, more, headersAt}
 use Rattle.exchange.proofs.HeaderLaws.{headers-more}
 use Rattle.exchange.proofs.GridLaws.{place-of-line}
 

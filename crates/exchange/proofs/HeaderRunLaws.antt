@@ -14,11 +14,12 @@ use Rattle.exchange.specs.declared.headers.Header.{Header}
 use Rattle.exchange.specs.declared.headers.Headers.{Headers}
 use Rattle.exchange.specs.Faults.{Fault, clean, breaks, _then_, unless, hasAll, firstOf}
 use Rattle.exchange.specs.Columns.{ctd}
-use Rattle.exchange.specs.Headers.{Header as FileHeader, namesIn, nameRule, headersSaid, stationNames, firstHeaderList, lastHeader}
-use Rattle.exchange.specs.Places.{Place, comments, headers, names, stopped, isComment, endList, endRules, stopAt, step, Outcome, refused, last, run}
-use Rattle.exchange.specs.RuleWords.{lineRules, firstHeaderRules}
-use Rattle.exchange.specs.Walks.{linesFrom, StartsAt, lineFault, lineFor, lineOf, namesAt, headersAt, HeadersRead}
-use Rattle.exchange.specs.HeadersWords.{Parted, namedFault, headerFault, HeaderRead, HeadersPlaced}
+use Rattle.exchange.specs.Headers.{Header as FileHeader, namesIn, headerNameRule, headersSaid, stationNames, firstHeaderRules, lastHeaderRules}
+use Rattle.exchange.specs.Places.{Place, comments, headers, names, stopped, isComment, lastPieceRules, endRules, stopAt, step, Outcome, refused, last, run}
+use Rattle.exchange.specs.Inner.Faults.{lineFault, firstHeaderFault}
+use Rattle.exchange.specs.Inner.Lines.{linesFrom, StartsAt, lineFaultAt, lineFor, lineOf}
+use Rattle.exchange.specs.Inner.Names.{namesAt}
+use Rattle.exchange.specs.Inner.Headers.{Parted, namedFaultAt, headerFaultAt, HeaderRead, HeadersPlaced, headersAt, HeadersRead}
 use Rattle.exchange.proofs.RuleLaws.{then-none, afterHeader, first-header-step, header-step, Going, faultOutcome}
 use Rattle.exchange.proofs.RunLaws.{run-stopped, run-line, lines-end, line-clean, line-broken-here, starts-next}
 use Rattle.exchange.proofs.HeaderLaws.{breaks-clean, fault-clean, fault-broken, then-clean, then-first, then-second, line-zero, zero-line, headers-names, headers-more}
@@ -29,20 +30,20 @@ unfolding run
 run-ended l p s i h = ap (run l p) (lines-end s i h)
 
 module _ (l : ℕ) (p : Place) (s : List ℕ) (i : ℕ) (h : i < length s) (g : Fault) (on : Place)
-    (es : step l p (lineAt s i) ≡ stopAt l (lineRules true (lineAt s i) then g) on)
+    (es : step l p (lineAt s i) ≡ stopAt l (lineFault true (lineAt s i) then g) on)
     (ec : Going p) where
-  run-clean : (lineFault true s i then g) ≡ clean → run l p (linesFrom s i) ≡ run (l + 1) on (linesFrom s (i + length (lineAt s i) + 1))
+  run-clean : (lineFaultAt true s i then g) ≡ clean → run l p (linesFrom s i) ≡ run (l + 1) on (linesFrom s (i + length (lineAt s i) + 1))
   run-clean e =
-      let a = then-clean (lineFault true s i) g e in
+      let a = then-clean (lineFaultAt true s i) g e in
       let b = line-clean true s i (zero-line true s i (a .0)) in
       let k : step l p (lineAt s i) ≡ on = es ∙ ap (λ (f : Fault). stopAt l (f then g) on) (b .0) ∙ ap (λ (f : Fault). stopAt l f on) (a .1) in
       run-line l p s i (b .1) ∙ ap (λ (x : Place). run (l + 1) x (linesFrom s (i + length (lineAt s i) + 1))) k
 
-  run-broken : (n c : ℕ) → (lineFault true s i then g) ≡ breaks n c → run l p (linesFrom s i) ≡ refused n l c
+  run-broken : (n c : ℕ) → (lineFaultAt true s i then g) ≡ breaks n c → run l p (linesFrom s i) ≡ refused n l c
   unfolding lineOf
-  run-broken n c e = go (lineFault true s i) refl e
+  run-broken n c e = go (lineFaultAt true s i) refl e
     where
-      go : (f : Fault) → lineFault true s i ≡ f → (f then g) ≡ breaks n c → run l p (linesFrom s i) ≡ refused n l c
+      go : (f : Fault) → lineFaultAt true s i ≡ f → (f then g) ≡ breaks n c → run l p (linesFrom s i) ≡ refused n l c
       go clean a e =
           let b = line-clean true s i (zero-line true s i a) in
           let k : step l p (lineAt s i) ≡ stopped n l c = es ∙ ap (λ (f : Fault). stopAt l (f then g) on) (b .0) ∙ ap (λ (f : Fault). stopAt l f on) e in
@@ -59,7 +60,7 @@ abbrev pub left : List ℕ → ℕ → ℕ → List ℕ → List ℕ → ℕ →
 left s n k bs es l i = run l (afterHeader (l - 1) (n - k) (headersAt s k bs es)) (linesFrom s i)
 
 after-due : (l d : ℕ) (hs : List FileHeader) → 0 < d → afterHeader l d hs ≡ headers d hs
-unfolding afterHeader lastHeader firstOf
+unfolding afterHeader lastHeaderRules firstOf
 after-due l zero hs h = absurd (omega arith)
 after-due l (suc d) hs h = refl
 
@@ -81,25 +82,25 @@ not-comment s i h n = go (eqb (getD s i 0) 10) refl
     go false e = ap (λ (x : List ℕ). equal (take 1 x) (35 ∷ [])) (line-in s i h e) ∙ rw (ne-eqb (getD s i 0) 35 n)
 
 pub first-ended : (s : List ℕ) (i l : ℕ) → length s ≤ i → run l (comments ctd) (linesFrom s i) ≡ refused 14 l 1
-unfolding endRules endList firstOf
+unfolding endRules lastPieceRules firstOf
 first-ended s i l h = run-ended l (comments ctd) s i h
 
-module _ (s : List ℕ) (i l : ℕ) (h : i < length s) (n : getD s i 0 ≡ 35 → ⊥) (r : Header) (w : HeaderRead (namedFault s i) s i r) where
-  first-broken : (a c : ℕ) → (lineFault true s i then firstHeaderRules (lineAt s i)) ≡ breaks a c → run l (comments ctd) (linesFrom s i) ≡ refused a l c
+module _ (s : List ℕ) (i l : ℕ) (h : i < length s) (n : getD s i 0 ≡ 35 → ⊥) (r : Header) (w : HeaderRead (namedFaultAt s i) s i r) where
+  first-broken : (a c : ℕ) → (lineFaultAt true s i then firstHeaderFault (lineAt s i)) ≡ breaks a c → run l (comments ctd) (linesFrom s i) ≡ refused a l c
   first-broken a c e =
-      run-broken l (comments ctd) s i h (firstHeaderRules (lineAt s i)) _ (first-header-step l (lineAt s i) (not-comment s i h n)) tt a c e
+      run-broken l (comments ctd) s i h (firstHeaderFault (lineAt s i)) _ (first-header-step l (lineAt s i) (not-comment s i h n)) tt a c e
 
   pub first-refused : (r .number ≡ 0 → ⊥) → run l (comments ctd) (linesFrom s i) ≡ refused (r .number) l (r .column)
-  unfolding firstHeaderRules firstHeaderList firstOf
+  unfolding firstHeaderFault firstHeaderRules firstOf
   first-refused z =
       first-broken (r .number) (r .column)
-      (fault-broken (r .number) (r .column) _ (then-first (r .number) (r .column) (lineFault true s i) (nameRule (lineAt s i)) _ z (w .fault)) z)
+      (fault-broken (r .number) (r .column) _ (then-first (r .number) (r .column) (lineFaultAt true s i) (headerNameRule (lineAt s i)) _ z (w .fault)) z)
 
   module _ (z : r .number ≡ 0) (k : ℕ) (ek : k ≡ headersSaid (lineAt s i)) where
-    first-rules : (lineFault true s i then firstHeaderRules (lineAt s i)) ≡ unless (ltb 0 k) 8 1
-    unfolding firstHeaderRules firstHeaderList firstOf
+    first-rules : (lineFaultAt true s i then firstHeaderFault (lineAt s i)) ≡ unless (ltb 0 k) 8 1
+    unfolding firstHeaderFault firstHeaderRules firstOf
     first-rules =
-        then-second (lineFault true s i) (nameRule (lineAt s i)) _ (fault-clean (r .number) (r .column) _ (w .fault) z)
+        then-second (lineFaultAt true s i) (headerNameRule (lineAt s i)) _ (fault-clean (r .number) (r .column) _ (w .fault) z)
         ∙ then-none (unless (ltb 0 (headersSaid (lineAt s i))) 8 1)
         ∙ ap (λ (x : ℕ). unless (ltb 0 x) 8 1) (sym ek)
 
@@ -111,7 +112,7 @@ module _ (s : List ℕ) (i l : ℕ) (h : i < length s) (n : getD s i 0 ≡ 35 �
     unfolding headersAt
     first-on e bs es lb le =
         let t = w .parted z in
-        run-clean l (comments ctd) s i h (firstHeaderRules (lineAt s i)) _ (first-header-step l (lineAt s i) (not-comment s i h n)) tt
+        run-clean l (comments ctd) s i h (firstHeaderFault (lineAt s i)) _ (first-header-step l (lineAt s i) (not-comment s i h n)) tt
         (first-rules ∙ ap (λ (b : Bool). unless b 8 1) (lt-ltb 0 k (positive e)))
         ∙ run-same s (l + 1) l (l + 1 - 1) (headersSaid (lineAt s i) - 1) (k - 1) (i + length (lineAt s i) + 1) (r .end + 1) _ _
         (omega arith) (ap (λ (x : ℕ). x - 1) (sym ek)) (sym (headers-more s 0 bs es i (r .equals) (r .end) lb le t)) (omega (arith, t .end))
@@ -126,12 +127,12 @@ module _ (s : List ℕ) (n k : ℕ) (bs es : List ℕ) (l i : ℕ) where
     left-due = ap (λ (p : Place). run l p (linesFrom s i)) (after-due (l - 1) (n - k) (headersAt s k bs es) (omega arith))
 
     pub left-ended : length s ≤ i → left s n k bs es l i ≡ refused 14 l 1
-    unfolding endRules endList firstOf
+    unfolding endRules lastPieceRules firstOf
     left-ended h = left-due ∙ run-ended l (headers (n - k) (headersAt s k bs es)) s i h
 
-    module _ (h : i < length s) (r : Header) (w : HeaderRead (headerFault (namesAt s k bs es) s i) s i r) where
-      by-names : headerFault (namesIn (headersAt s k bs es)) s i ≡ headerFault (namesAt s k bs es) s i
-      by-names = ap (λ (ns : List (List ℕ)). headerFault ns s i) (headers-names s k bs es)
+    module _ (h : i < length s) (r : Header) (w : HeaderRead (headerFaultAt (namesAt s k bs es) s i) s i r) where
+      by-names : headerFaultAt (namesIn (headersAt s k bs es)) s i ≡ headerFaultAt (namesAt s k bs es) s i
+      by-names = ap (λ (ns : List (List ℕ)). headerFaultAt ns s i) (headers-names s k bs es)
 
       pub left-refused : (r .number ≡ 0 → ⊥) → left s n k bs es l i ≡ refused (r .number) l (r .column)
       left-refused z =
@@ -152,7 +153,7 @@ module _ (s : List ℕ) (n k : ℕ) (bs es : List ℕ) (l i : ℕ) where
   -- ---- after the last
   module _ (m : n ≤ k) (b : Bool) (eb : b ≡ hasAll stationNames (namesAt s k bs es)) where
     left-by : left s n k bs es l i ≡ run l (stopAt (l - 1) (unless b 13 1) (names ctd (headersAt s k bs es))) (linesFrom s i)
-    unfolding afterHeader lastHeader firstOf
+    unfolding afterHeader lastHeaderRules firstOf
     left-by =
         let d : n - k ≡ 0 = omega arith in
         ap (λ (x : ℕ). run l (afterHeader (l - 1) x (headersAt s k bs es)) (linesFrom s i)) d

@@ -13,14 +13,15 @@ use Rattle.text.specs.Cells.{pieces, lineAt, cellAt, cellEnd}
 use Rattle.text.specs.Spaces.{trimFront, trimEnd, trim}
 use Rattle.text.specs.Names.{beginsCtd}
 use Rattle.text.proofs.SpaceLaws.{span-bytes}
-use Rattle.exchange.specs.declared.asking.Cell.{Cell}
+use Rattle.exchange.specs.declared.cells.Cell.{Cell}
 use Rattle.exchange.specs.declared.Located.{Located}
 use Rattle.exchange.specs.Columns.{namesOf}
-use Rattle.exchange.specs.Grid.{spanIn, cellSpan}
-use Rattle.exchange.specs.Walks.{textIn}
-use Rattle.exchange.specs.Located.{nowhere, locatedBy, locatedOf}
-use Rattle.exchange.specs.AskWords.{CellRead, AskedRead}
-use Rattle.exchange.proofs.CellsLaws.{ends-stop, cell-slice}
+use Rattle.exchange.specs.Grid.{nowhere, spanIn, cellSpan}
+use Rattle.exchange.specs.Inner.Names.{textIn}
+use Rattle.exchange.specs.Located.{locatedBy, locatedOf}
+use Rattle.exchange.specs.Inner.Cells.{CellRead, AskedRead}
+use Rattle.exchange.proofs.NamesLineLaws.{ends-stop}
+use Rattle.exchange.proofs.GridWalkLaws.{cell-slice}
 use Rattle.exchange.proofs.GridLaws.{SpanAt, span-at}
 
 -- ---- a column counted from 1, 0 being none

@@ -18,8 +18,7 @@ use Rattle.exchange.specs.declared.names.NameFault.{NameFault}
 use Rattle.exchange.specs.declared.names.NameFault.the-variants.{Clean, Bad, Repeated}
 use Rattle.exchange.specs.Faults.{member, hasAll, placeIn}
 use Rattle.exchange.specs.Headers.{stationNames}
-use Rattle.exchange.specs.Walks.{textIn, namesAt}
-use Rattle.exchange.specs.NameWords.{faultIn}
+use Rattle.exchange.specs.Inner.Names.{faultIn, textIn, namesAt}
 
 -- ---- names by place
 pub names-length : (s : List ℕ) (n : ℕ) (bs es : List ℕ) → n ≤ length bs → n ≤ length es → length (namesAt s n bs es) ≡ n

@@ -17,11 +17,11 @@ use Rattle.exchange.specs.declared.rows.Row.{Row}
 use Rattle.exchange.specs.Faults.{clean}
 use Rattle.exchange.specs.Columns.{kindsOf}
 use Rattle.exchange.specs.Places.{Table}
-use Rattle.exchange.specs.RuleWords.{rowRules}
+use Rattle.exchange.specs.Inner.Faults.{rowFault, asFault}
 use Rattle.exchange.specs.Profiles.{Key, keyOf, sameKey, labelsFrom, labels, rowsOf}
-use Rattle.exchange.specs.Walks.{linesFrom, rowsFrom, asFault}
-use Rattle.exchange.specs.RowsWords.{keyAt, KeysWithin, cellsOf, RowRead}
-use Rattle.exchange.specs.ProfileWords.{RowLines, none, more, withNoted, RunOf, RunRead}
+use Rattle.exchange.specs.Inner.Lines.{linesFrom}
+use Rattle.exchange.specs.Inner.Rows.{keyAt, KeysWithin, lineCells, RowRead, rowsFrom}
+use Rattle.exchange.specs.Inner.Profiles.{RowLines, none, more, withNoted, RunOf, RunRead}
 use Rattle.exchange.proofs.RunLaws.{lines-more, line-feed}
 use Rattle.exchange.proofs.HeaderLaws.{breaks-clean}
 use Rattle.exchange.proofs.RowLaws.{none-within}
@@ -44,14 +44,14 @@ rows-lines (suc n) s t i h =
 
 pub record RowFirst (s ks : List ℕ) (i n : ℕ) : Type 0 where
   pub stop : Stop 44 s i (i + length (lineAt s i))
-  pub rules : rowRules ks (cellsOf s i) ≡ clean
+  pub rules : rowFault ks (lineCells s i) ≡ clean
   pub later : RowLines s ks (i + length (lineAt s i) + 1) (n - 1)
 
 pub rows-apart : {s ks : List ℕ} {i n : ℕ} → RowLines s ks i n → 0 < n → RowFirst s ks i n
 rows-apart none h = absurd (omega arith)
 rows-apart {s} {ks} (more {n = m} a b c) h = record { stop = a; rules = b; later = subst (RowLines s ks _) (omega arith) c }
 
-rows-more : (s : List ℕ) (i n : ℕ) → 0 < n → i + length (lineAt s i) < length s → rowsFrom s i n ≡ cellsOf s i ∷ rowsFrom s (i + length (lineAt s i) + 1) (n - 1)
+rows-more : (s : List ℕ) (i n : ℕ) → 0 < n → i + length (lineAt s i) < length s → rowsFrom s i n ≡ lineCells s i ∷ rowsFrom s (i + length (lineAt s i) + 1) (n - 1)
 rows-more s i n h f =
     let e : n ≡ suc (n - 1) = omega arith in
     ap (λ (m : ℕ). rowsFrom s i m) e ∙ ap (λ (ps : List (List ℕ)). take (suc (n - 1)) (map (pieces 44) ps)) (lines-more s i f)
@@ -64,7 +64,7 @@ rows-many {s} {ks} {i} (more {n = m} a b c) =
     ap length (rows-more s i (suc m) (omega arith) (a .room)) ∙ ap (λ (n : ℕ). suc (length (rowsFrom s (i + length (lineAt s i) + 1) n))) d ∙ ap suc (rows-many c)
 
 -- a row that keeps its rules is read with its key
-pub row-key : (s ks : List ℕ) (i : ℕ) (r : Row) → RowRead s ks i r → rowRules ks (cellsOf s i) ≡ clean → keyAt s (r .keys) ≡ keyOf ks (cellsOf s i)
+pub row-key : (s ks : List ℕ) (i : ℕ) (r : Row) → RowRead s ks i r → rowFault ks (lineCells s i) ≡ clean → keyAt s (r .keys) ≡ keyOf ks (lineCells s i)
 row-key s ks i r h e = h .key (go (r .number) (h .fault ∙ e))
   where
     go : (n : ℕ) → asFault n (r .at - i + 1) ≡ clean → n ≡ 0
@@ -189,7 +189,7 @@ module _ {s ks : List ℕ} {i n k at row label : ℕ} {last : Keys} {run : Run} 
     pub walk-first : RowFirst s ks at (n - row)
     walk-first = rows-apart (w .lines) (omega arith)
 
-    pub walk-row : (keys : Keys) (next : ℕ) (x : Run) → KeysWithin s keys → keyAt s keys ≡ keyOf ks (cellsOf s at) → next ≡ labelNext row (keyAt s last) label (keyAt s keys)
+    pub walk-row : (keys : Keys) (next : ℕ) (x : Run) → KeysWithin s keys → keyAt s keys ≡ keyOf ks (lineCells s at) → next ≡ labelNext row (keyAt s last) label (keyAt s keys)
         → x ≡ withNoted run (row + 1) (eqb next k) → Walked s ks i n k (at + length (lineAt s at) + 1) (row + 1) next keys x
     walk-row keys next x kw ek en ex = record {
       lines = subst (RowLines s ks (at + length (lineAt s at) + 1)) less (walk-first .later);
@@ -221,7 +221,7 @@ module _ {s ks : List ℕ} {i n k at row label : ℕ} {last : Keys} {run : Run} 
         labels-are : labelsAfter row (keyAt s last) label (map (keyOf ks) (rowsFrom s at (n - row))) ≡ next ∷ labelsAfter (row + 1) (keyAt s keys) next ys
         labels-are =
             ap (λ (rs : List (List (List ℕ))). labelsAfter row (keyAt s last) label (map (keyOf ks) rs))
-            (rows-more s at (n - row) (omega arith) (walk-first .stop .room) ∙ ap (λ (m : ℕ). cellsOf s at ∷ rowsFrom s (at + length (lineAt s at) + 1) m) less)
+            (rows-more s at (n - row) (omega arith) (walk-first .stop .room) ∙ ap (λ (m : ℕ). lineCells s at ∷ rowsFrom s (at + length (lineAt s at) + 1) m) less)
             ∙ ap (λ (y : Key). labelsAfter row (keyAt s last) label (y ∷ ys)) (sym ek)
             ∙ labels-row row (keyAt s last) (keyAt s keys) label ys (w .fresh)
             ∙ ap (λ (m : ℕ). m ∷ labelsFrom (keyAt s keys) m ys) (sym en)

@@ -11,11 +11,12 @@ use Rattle.text.specs.declared.Span.{Span}
 use Rattle.text.specs.Bytes.{bytes}
 use Rattle.text.specs.Cells.{pieces}
 use Rattle.text.specs.Spaces.{trimSpan}
+use Rattle.text.specs.Kinds.{kindOf}
 use Rattle.text.proofs.SpaceLaws.{span-fits}
 use Rattle.exchange.specs.declared.CastTime.{CastTime}
 use Rattle.exchange.specs.declared.ProfileRecord.{ProfileRecord}
 use Rattle.exchange.specs.declared.CellPlace.{CellPlace}
-use Rattle.exchange.specs.declared.survey.Survey.{Survey}
+use Rattle.exchange.specs.declared.table.FileTable.{FileTable}
 use Rattle.exchange.specs.declared.profiles.Run.{Run}
 use Rattle.exchange.specs.declared.profiles.ProfileAt.{ProfileAt}
 use Rattle.exchange.specs.declared.values.ValueAt.{ValueAt}
@@ -26,15 +27,16 @@ use Rattle.exchange.specs.Grid.{starts, lineStart, spanIn}
 use Rattle.exchange.specs.Profiles.{Key, keyOf, labels, rowsOf}
 use Rattle.exchange.specs.Answers.{rowsIn, rowCells}
 use Rattle.exchange.specs.Records.{Value, given, absent, columnValue, valueBy, stationValue, labelsBy, profileRows, numberIn, castTime, noProfile, recordOf, profileBy, profileOf, Stationed, stands, refusedBy, stationedAt, stationedIn, stationedBy, stationedOf, stationPlace, stationRefusal, noPlace, stationAnswer}
-use Rattle.exchange.specs.Walks.{linesFrom, rowsFrom, sortOf, sortFor, TableRead}
-use Rattle.exchange.specs.RowsWords.{cellsOf}
-use Rattle.exchange.specs.SurveyWords.{SurveyRead}
-use Rattle.exchange.specs.ProfileWords.{RowLines, RunOf, RunRead}
-use Rattle.exchange.specs.ValueWords.{ValueRead, HeadersStand, HeaderFound, valueIn, RunFound, ValuesIn, ProfileFound, ProfileRead}
+use Rattle.exchange.specs.Inner.Lines.{linesFrom}
+use Rattle.exchange.specs.Inner.Top.{sortOf, sortFor}
+use Rattle.exchange.specs.Inner.Rows.{lineCells, rowsFrom}
+use Rattle.exchange.specs.Inner.Table.{FileRead, TableRead}
+use Rattle.exchange.specs.Inner.Profiles.{RowLines, RunOf, RunRead}
+use Rattle.exchange.specs.Inner.Values.{ValueRead, HeadersStand, HeaderFound, valueIn, RunFound, ValuesIn, ProfileFound, ProfileRead}
 use Rattle.exchange.proofs.AcceptLaws.{RowKept, rows-kept, accepted-table}
 use Rattle.exchange.proofs.GridLaws.{RowAt}
 use Rattle.exchange.proofs.AnswerLaws.{rows-read}
-use Rattle.exchange.proofs.AskLaws.{row-found}
+use Rattle.exchange.proofs.CellLaws.{row-found}
 use Rattle.exchange.proofs.ProfileLaws.{rows-lines, rows-many}
 use Rattle.exchange.proofs.ValueLaws.{not-so, so}
 
@@ -58,7 +60,7 @@ unfolding rowsOf
 others-none k r [] h = refl
 others-none k r (y ∷ ys) h = rw (ne-eqb 1 k (λ e. h (sym e))) (others-none k (r + 1) ys h)
 
-module _ (s : List ℕ) (v : Survey) (w : SurveyRead s v) (z : v .number ≡ 0) where
+module _ (s : List ℕ) (v : FileTable) (w : FileRead s v) (z : v .number ≡ 0) where
   abbrev table : Table
   table = w .on z .0
 
@@ -146,7 +148,7 @@ run-some : (xs : List ℕ) (r : Run) → RunOf xs r → (r .rows ≡ 0 → ⊥) 
 run-some [] r h e = absurd (e (h .many))
 run-some (x ∷ xs) r h e = ap (λ (y : ℕ). y ∷ xs) (sym (h .first e))
 
-pub profile-refused : (s : List ℕ) (k : ℕ) (v : Survey) (p : ProfileAt) → SurveyRead s v → (v .number ≡ 0 → ⊥) → (p .number ≡ v .number) × (p .line ≡ v .line) × (p .column ≡ v .column) → ProfileRead s k p
+pub profile-refused : (s : List ℕ) (k : ℕ) (v : FileTable) (p : ProfileAt) → FileRead s v → (v .number ≡ 0 → ⊥) → (p .number ≡ v .number) × (p .line ≡ v .line) × (p .column ≡ v .column) → ProfileRead s k p
 unfolding profileOf stationedOf
 profile-refused s k v p w z e = record {
   stop = λ y. rw (e .0, e .1, e .2) (ap (profileBy s k) (w .stop z));
@@ -154,7 +156,7 @@ profile-refused s k v p w z e = record {
   on = λ y. absurd (z (sym (e .0) ∙ y));
 }
 
-module _ (s : List ℕ) (k : ℕ) (v : Survey) (w : SurveyRead s v) (z : v .number ≡ 0) (r : Run) (f : RunFound s v k r) where
+module _ (s : List ℕ) (k : ℕ) (v : FileTable) (w : FileRead s v) (z : v .number ≡ 0) (r : Run) (f : RunFound s v k r) where
   abbrev found : List ℕ
   found = profileRows (w .on z .0) (v .rows) s k
 
@@ -224,7 +226,7 @@ module _ (s : List ℕ) (t : Table) (p : ProfileAt) (w : ValuesIn s t p) where
         let i = starts (map length (pieces 10 s)) (t .line + (p .first - 1)) in
         let k = placeIn name (t .names) in
         let e : k ≡ k + 1 - 1 = omega arith in
-        ap (λ (ns : List (List ℕ)). value-at ns (cellsOf s (p .at)) (p .at)) (sym (w .named))
+        ap (λ (ns : List (List ℕ)). value-at ns (lineCells s (p .at)) (p .at)) (sym (w .named))
         ∙ ap (λ (ts : List (List ℕ)). value-at (t .names) ts (p .at)) (w .cells)
         ∙ ap (value-at (t .names) c) (w .place)
         ∙ ap (λ (m : ℕ). cond (ltb k (length (t .names))) (given (getD c m []) (spanIn i c m)) absent) e
@@ -255,8 +257,9 @@ module _ (s : List ℕ) (k : ℕ) (p : ProfileAt) (w : ProfileRead s k p) where
 
   module _ (z : p .number ≡ 0) where
     pub record-given : (a b : ℕ) (c : CastTime) → c ≡ castTime (stationValue (w .on z .0) s (p .first) (bytes "TIME"))
-        → a ≡ numberIn 8 (stationValue (w .on z .0) s (p .first) (bytes "CASTNO")) → b ≡ numberIn 9 (stationValue (w .on z .0) s (p .first) (bytes "DATE"))
+        → a ≡ numberIn (kindOf 8) (stationValue (w .on z .0) s (p .first) (bytes "CASTNO")) → b ≡ numberIn (kindOf 9) (stationValue (w .on z .0) s (p .first) (bytes "DATE"))
         → _≡_ {A = ProfileRecord} (record { number = 0; line = 0; column = 0; time = c; first = p .first; rows = p .rows; castno = a; date = b }) (profileOf s k)
+    unfolding kindOf
     record-given a b c ec ea eb =
         (λ i. record { number = 0; line = 0; column = 0; time = ec i; first = p .first; rows = w .on z .1 .many i; castno = ea i; date = eb i }) ∙ sym (w .on z .1 .record-is)
 

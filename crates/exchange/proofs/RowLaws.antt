@@ -3,10 +3,8 @@ use Prim.Native.Nat.{ℕ, zero, suc, _+_, _-_, _≤_, _<_}
 use mathlib.Core.Path.{_≡_, refl, sym, ap, subst, _∙_}
 use mathlib.Core.List.{List, [], _∷_}
 use mathlib.Core.Bool.{Bool, true, false, cond, not, _&&_, _||_, true≢false}
-use native.Mathlib.Numerals.{add-one}
 use native.Mathlib.Omega.{arith}
 use lib.ListN.{length, getD}
-use lib.Seq.{slice, slice-cons, slice-empty}
 use lib.Dec.{eqb}
 use borrow.Author.Tests.{eq-eqb, ne-eqb, eqb-true, eqb-false}
 use Rattle.text.specs.declared.Span.{Span}
@@ -15,20 +13,20 @@ use Rattle.text.specs.declared.CellsRead.{CellsRead}
 use Rattle.text.specs.Cells.{cellAt, cellEnd}
 use Rattle.text.specs.Spaces.{trim}
 use Rattle.text.specs.Verdicts.{Verdict, blank, wrong, outOfRange, good, numberOf, isGood, sizeOf}
-use Rattle.text.specs.Kinds.{kindOf}
+use Rattle.text.specs.Kinds.{castno, kindOf}
 use Rattle.text.specs.Judge.{judge, judgedOf}
 use Rattle.text.specs.Rows.{isMissingNumber, missingIn, noted, noKeys, endedAt, isLast, cellsFrom, cellsAt}
 use Rattle.text.specs.Inner.Scans.{Stop}
-use Rattle.text.proofs.CellLaws.{stop-moved, stop-holds, stop-short, to-end, cellEnd-within, cellEnd-from, cellEnd-in, cellEnd-end, cellEnd-parts, cell-in, cell-end, pieces-last, pieces-more}
+use Rattle.text.proofs.CellLaws.{stop-moved, stop-holds, stop-short, cellEnd-within, cellEnd-from, cellEnd-parts, pieces-last, pieces-more}
 use Rattle.text.proofs.JudgeLaws.{judged-at, judged-number}
 use Rattle.text.proofs.SpaceLaws.{span-bytes}
-use Rattle.exchange.specs.Faults.{Fault, clean, breaks, _then_, kindFault, firstOf}
+use Rattle.exchange.specs.Faults.{clean, breaks, kindFault, firstOf}
 use Rattle.exchange.specs.Profiles.{missingInRow, cellOfKind, keyOf}
-use Rattle.exchange.specs.Walks.{asFault}
 use Rattle.exchange.specs.declared.rows.Row.{Row}
-use Rattle.exchange.specs.Rows.{cellList, rowList}
-use Rattle.exchange.specs.RuleWords.{cellFaults, rowRules}
-use Rattle.exchange.specs.RowsWords.{spanText, keyAt, KeysWithin, cellsOf, rowRefused, RowRead}
+use Rattle.exchange.specs.Rows.{cellRules, rowRules}
+use Rattle.exchange.specs.Inner.Faults.{cellFault, rowFault, asFault}
+use Rattle.exchange.specs.Inner.Rows.{spanText, keyAt, KeysWithin, lineCells, rowRefused, RowRead}
+use Rattle.exchange.proofs.GridWalkLaws.{cell-slice}
 
 -- ---- one verdict
 pub fault-good : (v : Verdict) (c : ℕ) → isGood v ≡ true → kindFault v c ≡ clean
@@ -87,10 +85,10 @@ data Judging (s : List ℕ) (e : ℕ) : List ℕ → ℕ → ℕ → ℕ → Key
 
 -- ---- the cells from `at` on
 module _ {s : List ℕ} {at e : ℕ} (t : Stop 44 s at e) where
-  cells-last : getD s (cellEnd 44 s at) 0 ≡ 10 → cellsOf s at ≡ cellAt 44 s at ∷ []
+  cells-last : getD s (cellEnd 44 s at) 0 ≡ 10 → lineCells s at ≡ cellAt 44 s at ∷ []
   cells-last f = pieces-last t f
 
-  cells-more : getD s (cellEnd 44 s at) 0 ≡ 44 → cellsOf s at ≡ cellAt 44 s at ∷ cellsOf s (cellEnd 44 s at + 1)
+  cells-more : getD s (cellEnd 44 s at) 0 ≡ 44 → lineCells s at ≡ cellAt 44 s at ∷ lineCells s (cellEnd 44 s at + 1)
   cells-more f = pieces-more t (λ z. omega arith) f
 
   stop-next : getD s (cellEnd 44 s at) 0 ≡ 44 → Stop 44 s (cellEnd 44 s at + 1) e
@@ -100,36 +98,36 @@ module _ {s : List ℕ} {at e : ℕ} (t : Stop 44 s at e) where
 -- ---- what judging the cells gives is such a judging
 module _ (s : List ℕ) (e i : ℕ) where
   judging-bad : (k : ℕ) (ks : List ℕ) (at g m : ℕ) (w : Keys) → Stop 44 s at e → isGood (verdictAt s k at) ≡ false
-      → Judging s e (k ∷ ks) at g m w (cellsFrom i at g m w (k ∷ ks) (cellsOf s at))
+      → Judging s e (k ∷ ks) at g m w (cellsFrom i at g m w (k ∷ ks) (lineCells s at))
   unfolding cellsFrom cellEnd
   judging-bad k ks at g m w t h = rw h (bad t h)
 
-  judging-end : (k : ℕ) (ks : List ℕ) (at g m : ℕ) (w : Keys) (ts : List (List ℕ)) → cellsOf s at ≡ cellAt 44 s at ∷ ts → isLast ks ts ≡ true
-      → isGood (verdictAt s k at) ≡ true → Judging s e (k ∷ ks) at g m w (lastAt s k at g m w) → Judging s e (k ∷ ks) at g m w (cellsFrom i at g m w (k ∷ ks) (cellsOf s at))
+  judging-end : (k : ℕ) (ks : List ℕ) (at g m : ℕ) (w : Keys) (ts : List (List ℕ)) → lineCells s at ≡ cellAt 44 s at ∷ ts → isLast ks ts ≡ true
+      → isGood (verdictAt s k at) ≡ true → Judging s e (k ∷ ks) at g m w (lastAt s k at g m w) → Judging s e (k ∷ ks) at g m w (cellsFrom i at g m w (k ∷ ks) (lineCells s at))
   unfolding cellsFrom cellEnd
   judging-end k ks at g m w ts q l h j =
       subst (λ (us : List (List ℕ)). Judging s e (k ∷ ks) at g m w (cellsFrom i at g m w (k ∷ ks) us)) (sym q) (rw (h, l) j)
 
   judging-last : (k at g m : ℕ) (w : Keys) (b f : Bool) → Stop 44 s at e → isGood (verdictAt s k at) ≡ b → eqb (getD s (cellEnd 44 s at) 0) 10 ≡ f
-      → Judging s e (k ∷ []) at g m w (cellsFrom i at g m w (k ∷ []) (cellsOf s at))
+      → Judging s e (k ∷ []) at g m w (cellsFrom i at g m w (k ∷ []) (lineCells s at))
   judging-last k at g m w false f t h q = judging-bad k [] at g m w t h
   judging-last k at g m w true true t h q =
       let z = eqb-true (getD s (cellEnd 44 s at) 0) 10 q in
       judging-end k [] at g m w [] (cells-last t z) refl h (full t h z)
   judging-last k at g m w true false t h q =
       let z = cellEnd-parts t (eqb-false (getD s (cellEnd 44 s at) 0) 10 q) in
-      judging-end k [] at g m w (cellsOf s (cellEnd 44 s at + 1)) (cells-more t z) refl h (long t h z)
+      judging-end k [] at g m w (lineCells s (cellEnd 44 s at + 1)) (cells-more t z) refl h (long t h z)
 
-  judging-on : (k l : ℕ) (ks : List ℕ) (at g m : ℕ) (w : Keys) → cellsOf s at ≡ cellAt 44 s at ∷ cellsOf s (cellEnd 44 s at + 1)
+  judging-on : (k l : ℕ) (ks : List ℕ) (at g m : ℕ) (w : Keys) → lineCells s at ≡ cellAt 44 s at ∷ lineCells s (cellEnd 44 s at + 1)
       → isGood (verdictAt s k at) ≡ true
-      → cellsFrom i at g m w (k ∷ (l ∷ ks)) (cellsOf s at)
-      ≡ cellsFrom i (cellEnd 44 s at + 1) (g + 1) (missingTo s k at m) (keysTo s k at w) (l ∷ ks) (cellsOf s (cellEnd 44 s at + 1))
+      → cellsFrom i at g m w (k ∷ (l ∷ ks)) (lineCells s at)
+      ≡ cellsFrom i (cellEnd 44 s at + 1) (g + 1) (missingTo s k at m) (keysTo s k at w) (l ∷ ks) (lineCells s (cellEnd 44 s at + 1))
   unfolding cellsFrom cellEnd
   judging-on k l ks at g m w q h = ap (cellsFrom i at g m w (k ∷ (l ∷ ks))) q ∙ rw h
 
   judging-more : (k l : ℕ) (ks : List ℕ) (at g m : ℕ) (w : Keys) (b f : Bool) → Stop 44 s at e → isGood (verdictAt s k at) ≡ b → eqb (getD s (cellEnd 44 s at) 0) 10 ≡ f
-      → ((a n u : ℕ) (v : Keys) → Stop 44 s a e → Judging s e (l ∷ ks) a n u v (cellsFrom i a n u v (l ∷ ks) (cellsOf s a)))
-      → Judging s e (k ∷ (l ∷ ks)) at g m w (cellsFrom i at g m w (k ∷ (l ∷ ks)) (cellsOf s at))
+      → ((a n u : ℕ) (v : Keys) → Stop 44 s a e → Judging s e (l ∷ ks) a n u v (cellsFrom i a n u v (l ∷ ks) (lineCells s a)))
+      → Judging s e (k ∷ (l ∷ ks)) at g m w (cellsFrom i at g m w (k ∷ (l ∷ ks)) (lineCells s at))
   judging-more k l ks at g m w false f t h q rest = judging-bad k (l ∷ ks) at g m w t h
   judging-more k l ks at g m w true true t h q rest =
       let z = eqb-true (getD s (cellEnd 44 s at) 0) 10 q in
@@ -140,7 +138,7 @@ module _ (s : List ℕ) (e i : ℕ) where
       (more t h z (rest (cellEnd 44 s at + 1) (g + 1) (missingTo s k at m) (keysTo s k at w) (stop-next t z)))
 
 judging-from : (s : List ℕ) (e i : ℕ) (ks : List ℕ) (k at g m : ℕ) (w : Keys) → Stop 44 s at e
-    → Judging s e (k ∷ ks) at g m w (cellsFrom i at g m w (k ∷ ks) (cellsOf s at))
+    → Judging s e (k ∷ ks) at g m w (cellsFrom i at g m w (k ∷ ks) (lineCells s at))
 judging-from s e i [] k at g m w t = judging-last s e i k at g m w (isGood (verdictAt s k at)) (eqb (getD s (cellEnd 44 s at) 0) 10) t refl refl
 judging-from s e i (l ∷ ks) k at g m w t =
     judging-more s e i k l ks at g m w (isGood (verdictAt s k at)) (eqb (getD s (cellEnd 44 s at) 0) 10) t refl refl
@@ -156,24 +154,24 @@ record CellRefused (s : List ℕ) (e : ℕ) (ks : List ℕ) (at g : ℕ) (r : Ce
   low : at ≤ r .start
   stop : Stop 44 s (r .start) e
   left : r .good < g + length ks
-  count : length (cellsOf s at) + g ≡ length (cellsOf s (r .start)) + r .good
-  fault : (c : ℕ) → cellFaults c ks (cellsOf s at) ≡ breaks (r .number) (c + (r .start - at))
+  count : length (lineCells s at) + g ≡ length (lineCells s (r .start)) + r .good
+  fault : (c : ℕ) → cellFault c ks (lineCells s at) ≡ breaks (r .number) (c + (r .start - at))
 
 module _ {s : List ℕ} {at e : ℕ} (t : Stop 44 s at e) (k : ℕ) (ks : List ℕ) where
-  faults-bad : (c : ℕ) → isGood (verdictAt s k at) ≡ false → cellFaults c (k ∷ ks) (cellsOf s at) ≡ breaks (numberOf (verdictAt s k at)) c
-  unfolding cellFaults cellList firstOf
+  faults-bad : (c : ℕ) → isGood (verdictAt s k at) ≡ false → cellFault c (k ∷ ks) (lineCells s at) ≡ breaks (numberOf (verdictAt s k at)) c
+  unfolding cellFault cellRules firstOf
   faults-bad c h = rw (fault-bad (verdictAt s k at) c h)
 
-  faults-last : (c : ℕ) → isGood (verdictAt s k at) ≡ true → getD s (cellEnd 44 s at) 0 ≡ 10 → cellFaults c (k ∷ []) (cellsOf s at) ≡ clean
-  unfolding cellFaults cellList firstOf
+  faults-last : (c : ℕ) → isGood (verdictAt s k at) ≡ true → getD s (cellEnd 44 s at) 0 ≡ 10 → cellFault c (k ∷ []) (lineCells s at) ≡ clean
+  unfolding cellFault cellRules firstOf
   faults-last c h z = rw (fault-good (verdictAt s k at) c h)
 
   faults-more : (c : ℕ) → isGood (verdictAt s k at) ≡ true → getD s (cellEnd 44 s at) 0 ≡ 44
-      → cellFaults c (k ∷ ks) (cellsOf s at) ≡ cellFaults (c + (cellEnd 44 s at - at) + 1) ks (cellsOf s (cellEnd 44 s at + 1))
-  unfolding cellFaults cellList firstOf cellEnd
+      → cellFault c (k ∷ ks) (lineCells s at) ≡ cellFault (c + (cellEnd 44 s at - at) + 1) ks (lineCells s (cellEnd 44 s at + 1))
+  unfolding cellFault cellRules firstOf cellEnd
   faults-more c h z =
       let n : (at + length (cellAt 44 s at)) - at ≡ length (cellAt 44 s at) = omega arith in
-      ap (cellFaults c (k ∷ ks)) (cells-more t z) ∙ rw (n, fault-good (verdictAt s k at) c h)
+      ap (cellFault c (k ∷ ks)) (cells-more t z) ∙ rw (n, fault-good (verdictAt s k at) c h)
 
 judging-refused : {s : List ℕ} {e : ℕ} {js : List ℕ} {at g m : ℕ} {w : Keys} {r : CellsRead} → Judging s e js at g m w r → (r .number ≡ 0 → ⊥) → CellRefused s e js at g r
 judging-refused {s} {e} {js} {at} {g} (bad {k} {ks} t h) z = record {
@@ -191,7 +189,7 @@ judging-refused {s} {e} {js} {at} (long {k} t h f) z = absurd (z (judged-number 
 judging-refused {s} {e} {js} {at} {g} {m} {w} {r} (more {k} {l} {ks} t h f j) z =
     let x = judging-refused j z in
     let n = cellEnd-from 44 s at in
-    let c : length (cellsOf s at) ≡ suc (length (cellsOf s (cellEnd 44 s at + 1))) = ap length (cells-more t f) in
+    let c : length (lineCells s at) ≡ suc (length (lineCells s (cellEnd 44 s at + 1))) = ap length (cells-more t f) in
     record {
       low = omega (arith, x .low);
       stop = x .stop;
@@ -212,46 +210,40 @@ judging-within (more t h f j) = judging-within j
 
 -- the cells are not as many as the kinds
 judging-odd : {s : List ℕ} {e : ℕ} {js : List ℕ} {at g m : ℕ} {w : Keys} {r : CellsRead} → Judging s e js at g m w r → r .number ≡ 0
-    → (r .good ≡ g + length js → getD s (r .at) 0 ≡ 10 → ⊥) → length (cellsOf s at) ≡ length js → ⊥
+    → (r .good ≡ g + length js → getD s (r .at) 0 ≡ 10 → ⊥) → length (lineCells s at) ≡ length js → ⊥
 judging-odd {s} {e} {js} {at} (bad {k} t h) z n q = number-bad (verdictAt s k at) h (sym (judged-number (cellEnd 44 s at) (verdictAt s k at)) ∙ z)
 judging-odd {s} {e} {js} {at} (full {k} t h f) z n q = n refl (ap (λ (p : ℕ). getD s p 0) (judged-at (cellEnd 44 s at) (verdictAt s k at)) ∙ f)
 judging-odd {s} {e} {js} {at} (short {k} t h f) z n q =
-    let c : length (cellsOf s at) ≡ 1 = ap length (cells-last t f) in
+    let c : length (lineCells s at) ≡ 1 = ap length (cells-last t f) in
     omega arith
 judging-odd {s} {e} {js} {at} (long {k} t h f) z n q =
-    let c : length (cellsOf s at) ≡ suc (length (cellsOf s (cellEnd 44 s at + 1))) = ap length (cells-more t f) in
+    let c : length (lineCells s at) ≡ suc (length (lineCells s (cellEnd 44 s at + 1))) = ap length (cells-more t f) in
     omega arith
 judging-odd {s} {e} {js} {at} {g} (more {k} {l} {ks} t h f j) z n q =
-    let c : length (cellsOf s at) ≡ suc (length (cellsOf s (cellEnd 44 s at + 1))) = ap length (cells-more t f) in
+    let c : length (lineCells s at) ≡ suc (length (lineCells s (cellEnd 44 s at + 1))) = ap length (cells-more t f) in
     judging-odd j z (λ a b. n (omega arith) b) (omega arith)
 
 -- ---- a cell's place noted
-cell-slice : {s : List ℕ} {at e : ℕ} → Stop 44 s at e → (slice at (cellEnd 44 s at) s ≡ cellAt 44 s at) × (cellEnd 44 s at ≤ length s)
-cell-slice {s} {at} {e} t =
-    to-end t (λ (p : ℕ). (slice p (cellEnd 44 s p) s ≡ cellAt 44 s p) × (cellEnd 44 s p ≤ length s))
-    (λ p h l d. (ap (λ (n : ℕ). slice p n s) (cellEnd-end s p l 44 d) ∙ slice-empty p s ∙ sym (cell-end s p l 44 d), omega (arith, cellEnd-end s p l 44 d)))
-    (λ p l d x. (
-      ap (λ (n : ℕ). slice p n s) (cellEnd-in s p l 44 d)
-          ∙ slice-cons p (cellEnd 44 s (p + 1)) s 0 (omega (arith, cellEnd-from 44 s (p + 1))) (x .1)
-          ∙ ap (λ (q : ℕ). getD s p 0 ∷ slice q (cellEnd 44 s (p + 1)) s) (sym (add-one p))
-          ∙ ap (λ (u : List ℕ). getD s p 0 ∷ u) (x .0)
-          ∙ sym (cell-in s p l 44 d),
-      omega (arith, cellEnd-in s p l 44 d, x .1),
-    ))
+cell-within : {s : List ℕ} {at e : ℕ} → Stop 44 s at e → cellEnd 44 s at ≤ length s
+cell-within t = omega (arith, cellEnd-within t, t .room)
 
 cell-span : {s : List ℕ} {at e : ℕ} → Stop 44 s at e → spanText s (record { start = at; len = cellEnd 44 s at - at }) ≡ trim (cellAt 44 s at)
 unfolding spanText
 cell-span {s} {at} {e} t =
     let n : at + (cellEnd 44 s at - at) ≡ cellEnd 44 s at = omega (arith, cellEnd-from 44 s at) in
-    let x = cell-slice t in
-    rw n (span-bytes s at (cellEnd 44 s at) (cellEnd-from 44 s at) (x .1) ∙ ap trim (x .0))
+    rw n (span-bytes s at (cellEnd 44 s at) (cellEnd-from 44 s at) (cell-within t) ∙ ap trim (cell-slice 44 s at))
 
 -- the keys w stand for these cells
 record KeyHeld (s : List ℕ) (w : Keys) (x y z : List ℕ) : Type 0 where
   expocode : spanText s (w .expocode) ≡ trim x
   stnnbr : spanText s (w .stnnbr) ≡ trim y
-  castno : w .castno ≡ sizeOf (judge (kindOf 8) z)
+  castno : w .castno ≡ sizeOf (judge castno z)
   within : KeysWithin s w
+
+-- CASTNO by its number
+number-castno : (x : List ℕ) → sizeOf (judge (kindOf 8) x) ≡ sizeOf (judge castno x)
+unfolding kindOf
+number-castno x = refl
 
 noted-held : {s : List ℕ} {at e : ℕ} → Stop 44 s at e → (k : ℕ) {w : Keys} {x y z : List ℕ} → KeyHeld s w x y z
     → KeyHeld s (keysTo s k at w) (cond (eqb k 6) (cellAt 44 s at) x) (cond (eqb k 7) (cellAt 44 s at) y) (cond (eqb k 8) (cellAt 44 s at) z)
@@ -265,7 +257,7 @@ noted-held {s} {at} {e} t k {w} {x} {y} {z} h = go (eqb k 6) (eqb k 7) (eqb k 8)
     span = record { start = at; len = cellEnd 44 s at - at }
 
     fits : at + (cellEnd 44 s at - at) ≤ length s
-    fits = omega (arith, cellEnd-from 44 s at, cell-slice t .1)
+    fits = omega (arith, cellEnd-from 44 s at, cell-within t)
 
     go : (a b c : Bool) → eqb k 6 ≡ a → eqb k 7 ≡ b → eqb k 8 ≡ c
         → KeyHeld s
@@ -291,7 +283,7 @@ noted-held {s} {at} {e} t k {w} {x} {y} {z} h = go (eqb k 6) (eqb k 7) (eqb k 8)
     go false false true p q r = record {
       expocode = h .expocode;
       stnnbr = h .stnnbr;
-      castno = ap (λ (n : ℕ). sizeOf (judge (kindOf n) u)) (eqb-true k 8 r);
+      castno = ap (λ (n : ℕ). sizeOf (judge (kindOf n) u)) (eqb-true k 8 r) ∙ number-castno u;
       within = record { expocode = h .within .expocode; stnnbr = h .within .stnnbr };
     }
     go false false false p q r = h
@@ -308,11 +300,11 @@ none-held s = record { expocode = none; stnnbr = none; castno = refl; within = n
 
 -- ---- a good row
 record CellsFull (s ks : List ℕ) (at m : ℕ) (w : Keys) (r : CellsRead) : Type 0 where
-  count : length (cellsOf s at) ≡ length ks
-  fault : (c : ℕ) → cellFaults c ks (cellsOf s at) ≡ clean
-  missing : r .missing ≡ m + missingInRow ks (cellsOf s at)
+  count : length (lineCells s at) ≡ length ks
+  fault : (c : ℕ) → cellFault c ks (lineCells s at) ≡ clean
+  missing : r .missing ≡ m + missingInRow ks (lineCells s at)
   key : (x y z : List ℕ) → KeyHeld s w x y z
-      → KeyHeld s (r .keys) (cellOfKind 6 x ks (cellsOf s at)) (cellOfKind 7 y ks (cellsOf s at)) (cellOfKind 8 z ks (cellsOf s at))
+      → KeyHeld s (r .keys) (cellOfKind 6 x ks (lineCells s at)) (cellOfKind 7 y ks (lineCells s at)) (cellOfKind 8 z ks (lineCells s at))
 
 judging-full : {s : List ℕ} {e : ℕ} {js : List ℕ} {at g m : ℕ} {w : Keys} {r : CellsRead} → Judging s e js at g m w r → r .number ≡ 0
     → r .good ≡ g + length js → getD s (r .at) 0 ≡ 10 → CellsFull s js at m w r
@@ -331,8 +323,8 @@ judging-full {s} {e} {js} {at} (long {k} t h f) z n q =
     absurd (omega (arith, p, f))
 judging-full {s} {e} {js} {at} {g} {m} {w} {r} (more {k} {l} {ks} t h f j) z n q =
     let y = judging-full j z (omega arith) q in
-    let c : length (cellsOf s at) ≡ suc (length (cellsOf s (cellEnd 44 s at + 1))) = ap length (cells-more t f) in
-    let d : missingInRow (k ∷ (l ∷ ks)) (cellsOf s at) ≡ missingIn k (verdictAt s k at) + missingInRow (l ∷ ks) (cellsOf s (cellEnd 44 s at + 1)) = ap (missingInRow (k ∷ (l ∷ ks))) (cells-more t f) in
+    let c : length (lineCells s at) ≡ suc (length (lineCells s (cellEnd 44 s at + 1))) = ap length (cells-more t f) in
+    let d : missingInRow (k ∷ (l ∷ ks)) (lineCells s at) ≡ missingIn k (verdictAt s k at) + missingInRow (l ∷ ks) (lineCells s (cellEnd 44 s at + 1)) = ap (missingInRow (k ∷ (l ∷ ks))) (cells-more t f) in
     record {
       count = omega (arith, y .count);
       fault = λ c. faults-more t k (l ∷ ks) c h f ∙ y .fault (c + (cellEnd 44 s at - at) + 1);
@@ -362,16 +354,16 @@ fault-number zero c h = absurd (h refl)
 fault-number (suc n) c h = refl
 
 module _ (ks : List ℕ) (ts : List (List ℕ)) where
-  rules-count : (length ts ≡ length ks → ⊥) → rowRules ks ts ≡ breaks 15 1
-  unfolding rowRules cellFaults rowList firstOf
+  rules-count : (length ts ≡ length ks → ⊥) → rowFault ks ts ≡ breaks 15 1
+  unfolding rowFault cellFault rowRules firstOf
   rules-count h = rw (ne-eqb (length ts) (length ks) h)
 
-  rules-cells : length ts ≡ length ks → rowRules ks ts ≡ cellFaults 1 ks ts
-  unfolding rowRules cellFaults rowList firstOf
+  rules-cells : length ts ≡ length ks → rowFault ks ts ≡ cellFault 1 ks ts
+  unfolding rowFault cellFault rowRules firstOf
   rules-cells h = rw (eq-eqb (length ts) (length ks) h)
 
 -- a row that keeps them
-module _ (ks : List ℕ) (ts : List (List ℕ)) (h : rowRules ks ts ≡ clean) where
+module _ (ks : List ℕ) (ts : List (List ℕ)) (h : rowFault ks ts ≡ clean) where
   kept-count : length ts ≡ length ks
   kept-count = go (eqb (length ts) (length ks)) refl
     where
@@ -382,12 +374,12 @@ module _ (ks : List ℕ) (ts : List (List ℕ)) (h : rowRules ks ts ≡ clean) w
           let z : _≡_ {A = ℕ} 0 1 = cc in
           absurd (omega arith)
 
-  kept-cells : cellFaults 1 ks ts ≡ clean
+  kept-cells : cellFault 1 ks ts ≡ clean
   kept-cells = sym (rules-cells ks ts kept-count) ∙ h
 
-row-short : (s ks : List ℕ) (i : ℕ) → i < length s → (length (cellsOf s i) ≡ length ks → ⊥) → RowRead s ks i (rowRefused i 15)
+row-short : (s ks : List ℕ) (i : ℕ) → i < length s → (length (lineCells s i) ≡ length ks → ⊥) → RowRead s ks i (rowRefused i 15)
 row-short s ks i b h = record {
-  fault = ap (breaks 15) (omega arith) ∙ sym (rules-count ks (cellsOf s i) h);
+  fault = ap (breaks 15) (omega arith) ∙ sym (rules-count ks (lineCells s i) h);
   low = omega arith;
   high = b;
   few = omega arith;
@@ -411,19 +403,19 @@ module _ (s ks : List ℕ) (i e : ℕ) (t : Stop 44 s i e) (n : 0 < length ks) (
   row-left z = let f = judging-refused judged z in (f .stop, omega (arith, f .left))
 
   pub row-refused : (x : Row) → (r .number ≡ 0 → ⊥)
-      → x ≡ cond (eqb (length (cellsOf s (r .start))) (length ks - r .good)) (rowRefused (r .start) (r .number)) (rowRefused i 15) → RowRead s ks i x
-  row-refused x z h = rw h (go (eqb (length (cellsOf s (r .start))) (length ks - r .good)) refl)
+      → x ≡ cond (eqb (length (lineCells s (r .start))) (length ks - r .good)) (rowRefused (r .start) (r .number)) (rowRefused i 15) → RowRead s ks i x
+  row-refused x z h = rw h (go (eqb (length (lineCells s (r .start))) (length ks - r .good)) refl)
     where
       f : CellRefused s e ks i 0 r
       f = judging-refused judged z
 
-      go : (b : Bool) → eqb (length (cellsOf s (r .start))) (length ks - r .good) ≡ b
+      go : (b : Bool) → eqb (length (lineCells s (r .start))) (length ks - r .good) ≡ b
           → RowRead s ks i (cond b (rowRefused (r .start) (r .number)) (rowRefused i 15))
       go true p =
-          let m : length (cellsOf s i) ≡ length ks = omega (arith, eqb-true (length (cellsOf s (r .start))) (length ks - r .good) p, f .count, f .left) in
+          let m : length (lineCells s i) ≡ length ks = omega (arith, eqb-true (length (lineCells s (r .start))) (length ks - r .good) p, f .count, f .left) in
           record {
             fault = fault-number (r .number) (r .start - i + 1) z
-                ∙ sym (rules-cells ks (cellsOf s i) m ∙ f .fault 1 ∙ ap (breaks (r .number)) (omega arith));
+                ∙ sym (rules-cells ks (lineCells s i) m ∙ f .fault 1 ∙ ap (breaks (r .number)) (omega arith));
             low = f .low;
             high = omega (arith, f .stop .inside, f .stop .room);
             few = omega arith;
@@ -431,7 +423,7 @@ module _ (s ks : List ℕ) (i e : ℕ) (t : Stop 44 s i e) (n : 0 < length ks) (
             missing = λ y. absurd (z y);
             key = λ y. absurd (z y);
           }
-      go false p = row-short s ks i inside (λ m. eqb-false (length (cellsOf s (r .start))) (length ks - r .good) p (omega (arith, f .count, f .left, m)))
+      go false p = row-short s ks i inside (λ m. eqb-false (length (lineCells s (r .start))) (length ks - r .good) p (omega (arith, f .count, f .left, m)))
 
   pub row-odd : r .number ≡ 0 → (r .good ≡ length ks → getD s (r .at) 0 ≡ 10 → ⊥) → RowRead s ks i (rowRefused i 15)
   row-odd z h = row-short s ks i inside (judging-odd judged z (λ a b. h (omega arith) b))
@@ -442,28 +434,28 @@ module _ (s ks : List ℕ) (i e : ℕ) (t : Stop 44 s i e) (n : 0 < length ks) (
       let x = judging-full judged z (omega arith) f in
       let k = x .key [] [] [] (none-held s) in
       record {
-        fault = sym (rules-cells ks (cellsOf s i) (x .count) ∙ x .fault 1);
+        fault = sym (rules-cells ks (lineCells s i) (x .count) ∙ x .fault 1);
         low = omega arith;
         high = inside;
-        few = omega (arith, x .missing, missing-few ks (cellsOf s i));
+        few = omega (arith, x .missing, missing-few ks (lineCells s i));
         within = k .within;
         missing = λ y. x .missing ∙ omega arith;
         key = λ y d. record { expocode = k .expocode d; stnnbr = k .stnnbr d; castno = k .castno d };
       }
 
   -- the keys of a row that keeps its rules
-  pub row-keys : rowRules ks (cellsOf s i) ≡ clean → KeysWithin s (r .keys) × (keyAt s (r .keys) ≡ keyOf ks (cellsOf s i))
+  pub row-keys : rowFault ks (lineCells s i) ≡ clean → KeysWithin s (r .keys) × (keyAt s (r .keys) ≡ keyOf ks (lineCells s i))
   row-keys h = go (eqb (r .number) 0) (eqb (r .good) (length ks)) (eqb (getD s (r .at) 0) 10) refl refl refl
     where
       Keyed : Type 0
-      Keyed = KeysWithin s (r .keys) × (keyAt s (r .keys) ≡ keyOf ks (cellsOf s i))
+      Keyed = KeysWithin s (r .keys) × (keyAt s (r .keys) ≡ keyOf ks (lineCells s i))
 
       odd : r .number ≡ 0 → (r .good ≡ length ks → getD s (r .at) 0 ≡ 10 → ⊥) → Keyed
-      odd z f = absurd (judging-odd judged z (λ a b. f (omega arith) b) (kept-count ks (cellsOf s i) h))
+      odd z f = absurd (judging-odd judged z (λ a b. f (omega arith) b) (kept-count ks (lineCells s i) h))
 
       go : (a b c : Bool) → eqb (r .number) 0 ≡ a → eqb (r .good) (length ks) ≡ b → eqb (getD s (r .at) 0) 10 ≡ c → Keyed
       go false b c p q f =
-          let x : breaks (r .number) (1 + (r .start - i)) ≡ clean = sym (judging-refused judged (eqb-false (r .number) 0 p) .fault 1) ∙ kept-cells ks (cellsOf s i) h in
+          let x : breaks (r .number) (1 + (r .start - i)) ≡ clean = sym (judging-refused judged (eqb-false (r .number) 0 p) .fault 1) ∙ kept-cells ks (lineCells s i) h in
           let z : _≡_ {A = ℕ} 0 1 = cc in
           absurd (omega arith)
       go true false c p q f = odd (eqb-true (r .number) 0 p) (λ a b. eqb-false (r .good) (length ks) q a)

@@ -8,12 +8,12 @@ use lib.ListN.{length}
 use lib.Dec.{leb, eqb, ltb}
 use Rattle.text.specs.Cells.{pieces}
 use Rattle.exchange.specs.Faults.{Fault, clean, breaks, _then_, firstOf, unless, hasAll}
-use Rattle.exchange.specs.LineRules.{lineList, cutList}
-use Rattle.exchange.specs.Headers.{Header, headerOf, namesIn, headersSaid, firstHeaderList, headerList, lastHeader}
-use Rattle.exchange.specs.Columns.{Sort, bottle, ctd, nameList, flagList, requiredNames, namesOf, namesList, kindsOf}
-use Rattle.exchange.specs.Rows.{rowList, boundList, dataList, isEndData}
-use Rattle.exchange.specs.Places.{Table, Place, first, comments, headers, names, units, rows, after, stopped, isBottle, isComment, firstList, rulesAt, endList, endRules, dueHeaders, nextPlace, stopAt, step, Outcome, refused, outcomeAt, last}
-use Rattle.exchange.specs.RuleWords.{lineRules, unended, firstHeaderRules, headerRules, nameFaults, flagFaults, namesRules, rowRules, boundFault}
+use Rattle.exchange.specs.LineRules.{lineRules, unendedRules}
+use Rattle.exchange.specs.Headers.{Header, headerOf, namesIn, headersSaid, firstHeaderRules, headerRules, lastHeaderRules}
+use Rattle.exchange.specs.Columns.{Sort, bottle, ctd, nameRules, flagRules, requiredNames, namesOf, namesLineRules, kindsOf}
+use Rattle.exchange.specs.Rows.{rowRules, boundRules, dataLineRules, isEndData}
+use Rattle.exchange.specs.Places.{Table, Place, first, comments, headers, names, units, rows, after, stopped, isBottle, isComment, firstLineRules, rulesAt, lastPieceRules, endRules, dueHeaders, nextPlace, stopAt, step, Outcome, refused, outcomeAt, last}
+use Rattle.exchange.specs.Inner.Faults.{lineFault, unendedFault, firstHeaderFault, headerFault, nameFault, flagFault, namesLineFault, rowFault, boundFault}
 
 then-assoc : (a b c : Fault) → ((a then b) then c) ≡ (a then (b then c))
 then-assoc clean b c = refl
@@ -34,35 +34,35 @@ first-one r = then-none r
 
 -- ---- the names line, a data line
 pub names-rules : (k : Sort) (x : List ℕ)
-    → namesRules k x ≡ (nameFaults 1 [] (pieces 44 x) then flagFaults 1 (namesOf x) (pieces 44 x) then unless (hasAll (requiredNames k) (namesOf x)) 13 1)
-unfolding namesRules namesList nameFaults flagFaults
+    → namesLineFault k x ≡ (nameFault 1 [] (pieces 44 x) then flagFault 1 (namesOf x) (pieces 44 x) then unless (hasAll (requiredNames k) (namesOf x)) 13 1)
+unfolding namesLineFault namesLineRules nameFault flagFault
 names-rules k x =
-    let a = nameList 1 [] (pieces 44 x) in
-    let b = flagList 1 (namesOf x) (pieces 44 x) in
+    let a = nameRules 1 [] (pieces 44 x) in
+    let b = flagRules 1 (namesOf x) (pieces 44 x) in
     let r = unless (hasAll (requiredNames k) (namesOf x)) 13 1 in
     first-append (a ++ b) (r ∷ []) ∙ rw (first-append a b, first-one r) (then-assoc (firstOf a) (firstOf b) r)
 
-data-rules : (n : ℕ) (ns ts : List (List ℕ)) → firstOf (dataList n ns ts) ≡ (unless (ltb n 1000000) 20 1 then rowRules (kindsOf ns) ts then boundFault ns ts)
-unfolding dataList rowRules boundFault firstOf
-data-rules n ns ts = ap (λ (r : Fault). unless (ltb n 1000000) 20 1 then r) (first-append (rowList (kindsOf ns) ts) (boundList ns ts))
+data-rules : (n : ℕ) (ns ts : List (List ℕ)) → firstOf (dataLineRules n ns ts) ≡ (unless (ltb n 1000000) 20 1 then rowFault (kindsOf ns) ts then boundFault ns ts)
+unfolding dataLineRules rowFault boundFault firstOf
+data-rules n ns ts = ap (λ (r : Fault). unless (ltb n 1000000) 20 1 then r) (first-append (rowRules (kindsOf ns) ts) (boundRules ns ts))
 
 -- ---- one line at its place: rules 1 to 5 and then its own
 stop-line : (l : ℕ) (control : Bool) (x : List ℕ) (rs : List Fault) (r : Fault) (p : Place) → firstOf rs ≡ r
-    → stopAt l (firstOf (lineList control x ++ rs)) p ≡ stopAt l (lineRules control x then r) p
-unfolding lineRules
-stop-line l control x rs r p e = ap (λ (y : Fault). stopAt l y p) (first-append (lineList control x) rs ∙ ap (λ (y : Fault). firstOf (lineList control x) then y) e)
+    → stopAt l (firstOf (lineRules control x ++ rs)) p ≡ stopAt l (lineFault control x then r) p
+unfolding lineFault
+stop-line l control x rs r p e = ap (λ (y : Fault). stopAt l y p) (first-append (lineRules control x) rs ∙ ap (λ (y : Fault). firstOf (lineRules control x) then y) e)
 
-pub first-step : (l : ℕ) (x : List ℕ) → step l first x ≡ stopAt l (lineRules true x then firstOf (firstList x)) (comments (cond (isBottle x) bottle ctd))
+pub first-step : (l : ℕ) (x : List ℕ) → step l first x ≡ stopAt l (lineFault true x then firstOf (firstLineRules x)) (comments (cond (isBottle x) bottle ctd))
 unfolding rulesAt nextPlace
-first-step l x = stop-line l true x (firstList x) _ _ refl
+first-step l x = stop-line l true x (firstLineRules x) _ _ refl
 
-pub comment-step : (l : ℕ) (k : Sort) (x : List ℕ) → isComment x ≡ true → step l (comments k) x ≡ stopAt l (lineRules false x) (comments k)
-unfolding rulesAt nextPlace lineRules
+pub comment-step : (l : ℕ) (k : Sort) (x : List ℕ) → isComment x ≡ true → step l (comments k) x ≡ stopAt l (lineFault false x) (comments k)
+unfolding rulesAt nextPlace lineFault
 comment-step l k x e = rw e
 
-pub names-step : (l : ℕ) (k : Sort) (hs : List Header) (x : List ℕ) → step l (names k hs) x ≡ stopAt l (lineRules true x then namesRules k x) (units k hs (namesOf x))
-unfolding rulesAt nextPlace namesRules
-names-step l k hs x = stop-line l true x (namesList k x) _ _ refl
+pub names-step : (l : ℕ) (k : Sort) (hs : List Header) (x : List ℕ) → step l (names k hs) x ≡ stopAt l (lineFault true x then namesLineFault k x) (units k hs (namesOf x))
+unfolding rulesAt nextPlace namesLineFault
+names-step l k hs x = stop-line l true x (namesLineRules k x) _ _ refl
 
 -- the first line of a bottle file that is no comment is its names line
 pub bottle-step : (l : ℕ) (x : List ℕ) → isComment x ≡ false → step l (comments bottle) x ≡ step l (names bottle []) x
@@ -70,46 +70,46 @@ unfolding rulesAt nextPlace
 bottle-step l x e = rw e
 
 pub units-step : (l : ℕ) (k : Sort) (hs : List Header) (ns : List (List ℕ)) (x : List ℕ)
-    → step l (units k hs ns) x ≡ stopAt l (lineRules true x then unless (eqb (length (pieces 44 x)) (length ns)) 15 1) (rows (record { sort = k; headers = hs; names = ns; line = l }) 0)
+    → step l (units k hs ns) x ≡ stopAt l (lineFault true x then unless (eqb (length (pieces 44 x)) (length ns)) 15 1) (rows (record { sort = k; headers = hs; names = ns; line = l }) 0)
 unfolding rulesAt nextPlace
 units-step l k hs ns x = stop-line l true x _ _ _ (first-one (unless (eqb (length (pieces 44 x)) (length ns)) 15 1))
 
-pub end-step : (l : ℕ) (t : Table) (n : ℕ) (x : List ℕ) → isEndData x ≡ true → step l (rows t n) x ≡ stopAt l (lineRules true x then unless (not (eqb n 0)) 19 1) (after t n)
+pub end-step : (l : ℕ) (t : Table) (n : ℕ) (x : List ℕ) → isEndData x ≡ true → step l (rows t n) x ≡ stopAt l (lineFault true x then unless (not (eqb n 0)) 19 1) (after t n)
 unfolding rulesAt nextPlace
 end-step l t n x e = rw e (stop-line l true x _ _ _ (first-one (unless (not (eqb n 0)) 19 1)))
 
 pub row-step : (l : ℕ) (t : Table) (n : ℕ) (x : List ℕ) → isEndData x ≡ false
-    → step l (rows t n) x ≡ stopAt l (lineRules true x then unless (ltb n 1000000) 20 1 then rowRules (kindsOf (t .names)) (pieces 44 x) then boundFault (t .names) (pieces 44 x)) (rows t (n + 1))
+    → step l (rows t n) x ≡ stopAt l (lineFault true x then unless (ltb n 1000000) 20 1 then rowFault (kindsOf (t .names)) (pieces 44 x) then boundFault (t .names) (pieces 44 x)) (rows t (n + 1))
 unfolding rulesAt nextPlace
 row-step l t n x e = rw e (stop-line l true x _ _ _ (data-rules n (t .names) (pieces 44 x)))
 
-pub after-step : (l : ℕ) (t : Table) (n : ℕ) (x : List ℕ) → step l (after t n) x ≡ stopAt l (lineRules false x) (after t n)
-unfolding rulesAt nextPlace lineRules
+pub after-step : (l : ℕ) (t : Table) (n : ℕ) (x : List ℕ) → step l (after t n) x ≡ stopAt l (lineFault false x) (after t n)
+unfolding rulesAt nextPlace lineFault
 after-step l t n x = refl
 
 -- headers: 13 after the last
 unfoldable pub afterHeader : ℕ → ℕ → List Header → Place
-afterHeader l due hs = stopAt l (firstOf (lastHeader due hs)) (dueHeaders due hs)
+afterHeader l due hs = stopAt l (firstOf (lastHeaderRules due hs)) (dueHeaders due hs)
 
 stop-header : (l : ℕ) (x : List ℕ) (rs : List Fault) (due : ℕ) (hs : List Header)
-    → stopAt l (firstOf (lineList true x ++ (rs ++ lastHeader due hs))) (dueHeaders due hs) ≡ stopAt l (lineRules true x then firstOf rs) (afterHeader l due hs)
+    → stopAt l (firstOf (lineRules true x ++ (rs ++ lastHeaderRules due hs))) (dueHeaders due hs) ≡ stopAt l (lineFault true x then firstOf rs) (afterHeader l due hs)
 unfolding afterHeader
-stop-header l x rs due hs = stop-line l true x _ _ _ (first-append rs (lastHeader due hs)) ∙ go (lineRules true x) (firstOf rs)
+stop-header l x rs due hs = stop-line l true x _ _ _ (first-append rs (lastHeaderRules due hs)) ∙ go (lineFault true x) (firstOf rs)
   where
-    go : (a b : Fault) → stopAt l (a then b then firstOf (lastHeader due hs)) (dueHeaders due hs) ≡ stopAt l (a then b) (stopAt l (firstOf (lastHeader due hs)) (dueHeaders due hs))
+    go : (a b : Fault) → stopAt l (a then b then firstOf (lastHeaderRules due hs)) (dueHeaders due hs) ≡ stopAt l (a then b) (stopAt l (firstOf (lastHeaderRules due hs)) (dueHeaders due hs))
     go (breaks n c) b = refl
     go clean (breaks n c) = refl
     go clean clean = refl
 
 pub first-header-step : (l : ℕ) (x : List ℕ) → isComment x ≡ false
-    → step l (comments ctd) x ≡ stopAt l (lineRules true x then firstHeaderRules x) (afterHeader l (headersSaid x - 1) (headerOf x ∷ []))
-unfolding rulesAt nextPlace firstHeaderRules
-first-header-step l x e = rw e (stop-header l x (firstHeaderList x) (headersSaid x - 1) (headerOf x ∷ []))
+    → step l (comments ctd) x ≡ stopAt l (lineFault true x then firstHeaderFault x) (afterHeader l (headersSaid x - 1) (headerOf x ∷ []))
+unfolding rulesAt nextPlace firstHeaderFault
+first-header-step l x e = rw e (stop-header l x (firstHeaderRules x) (headersSaid x - 1) (headerOf x ∷ []))
 
 pub header-step : (l due : ℕ) (hs : List Header) (x : List ℕ)
-    → step l (headers due hs) x ≡ stopAt l (lineRules true x then headerRules (namesIn hs) x) (afterHeader l (due - 1) (hs ++ headerOf x ∷ []))
-unfolding rulesAt nextPlace headerRules
-header-step l due hs x = stop-header l x (headerList (namesIn hs) x) (due - 1) (hs ++ headerOf x ∷ [])
+    → step l (headers due hs) x ≡ stopAt l (lineFault true x then headerFault (namesIn hs) x) (afterHeader l (due - 1) (hs ++ headerOf x ∷ []))
+unfolding rulesAt nextPlace headerFault
+header-step l due hs x = stop-header l x (headerRules (namesIn hs) x) (due - 1) (hs ++ headerOf x ∷ [])
 
 -- ---- places that are no refusal
 abbrev pub Going : Place → Type 0
@@ -127,8 +127,8 @@ abbrev pub faultOutcome : ℕ → Fault → Outcome
 faultOutcome l clean = refused 0 l 0
 faultOutcome l (breaks n c) = refused n l c
 
-pub cut-rules : (p : Place) (x : ℕ) (xs : List ℕ) → Going p → endRules p (x ∷ xs) ≡ cutList (x ∷ xs)
-unfolding endRules endList
+pub cut-rules : (p : Place) (x : ℕ) (xs : List ℕ) → Going p → endRules p (x ∷ xs) ≡ unendedRules (x ∷ xs)
+unfolding endRules lastPieceRules
 cut-rules first x xs g = refl
 cut-rules (comments k) x xs g = refl
 cut-rules (headers due hs) x xs g = refl
@@ -138,8 +138,8 @@ cut-rules (rows t n) x xs g = refl
 cut-rules (after t n) x xs g = refl
 cut-rules (stopped a b c) x xs g = absurd g
 
-pub last-cut : (l : ℕ) (p : Place) (x : List ℕ) → 0 < length x → Going p → last l p x ≡ faultOutcome l (unended x)
-unfolding unended cutList firstOf
+pub last-cut : (l : ℕ) (p : Place) (x : List ℕ) → 0 < length x → Going p → last l p x ≡ faultOutcome l (unendedFault x)
+unfolding unendedFault unendedRules firstOf
 last-cut l p [] h g = absurd (omega arith)
 last-cut l p (x ∷ xs) h g = ap (λ (rs : List Fault). outcomeAt (stopAt l (firstOf rs) p)) (cut-rules p x xs g) ∙ go (leb (length (x ∷ xs)) 8192)
   where

@@ -12,11 +12,13 @@ use Rattle.text.specs.declared.Found.{Found}
 use Rattle.text.specs.declared.Found.the-variants.{At, Nowhere}
 use Rattle.text.specs.Cells.{firstPiece, laterPieces, pieces, lineAt}
 use Rattle.text.specs.Lines.{illFormed, returnAt, controlAt}
+use Rattle.text.specs.Inner.Scans.{Stop}
+use Rattle.exchange.specs.declared.lines.Line.{Line}
 use Rattle.exchange.specs.Faults.{Fault, clean, breaks, _then_, unless, firstOf}
-use Rattle.exchange.specs.LineRules.{foundFault, tooLong, lineList, byteList, cutList}
+use Rattle.exchange.specs.LineRules.{foundFault, lineTooLong, lineRules, byteRules, unendedRules}
 use Rattle.exchange.specs.Places.{Place, stopped, rulesAt, endRules, nextPlace, step, refused, run}
-use Rattle.exchange.specs.RuleWords.{lineRules, unended}
-use Rattle.exchange.specs.Walks.{linesFrom, StartsAt, lineFault, lineFor, lineOf}
+use Rattle.exchange.specs.Inner.Faults.{lineFault, unendedFault}
+use Rattle.exchange.specs.Inner.Lines.{linesFrom, StartsAt, lineFaultAt, lineFor, lineOf}
 use Rattle.exchange.proofs.RuleLaws.{Going, faultOutcome, last-cut}
 
 -- after a broken rule nothing changes
@@ -99,7 +101,7 @@ unfolding run
 run-line l p s i h = rw (lines-more s i h)
 
 -- a last line that has none
-run-cut : (l : ℕ) (p : Place) (x : List ℕ) → 0 < length x → Going p → run l p (x ∷ []) ≡ faultOutcome l (unended x)
+run-cut : (l : ℕ) (p : Place) (x : List ℕ) → 0 < length x → Going p → run l p (x ∷ []) ≡ faultOutcome l (unendedFault x)
 unfolding run
 run-cut l p x h g = last-cut l p x h g
 
@@ -124,10 +126,10 @@ numbered-cond : (b : Bool) (f : Fault) → Numbered f → Numbered (cond b f cle
 numbered-cond true f h = h
 numbered-cond false f h = 0
 
-numbered-rules : (control : Bool) (x : List ℕ) → Numbered (lineRules control x)
-unfolding lineRules lineList byteList firstOf
+numbered-rules : (control : Bool) (x : List ℕ) → Numbered (lineFault control x)
+unfolding lineFault lineRules byteRules firstOf
 numbered-rules control x =
-    numbered-then (tooLong x) _ (numbered-unless (leb (length x) 8192) 1 8193 (λ e. omega arith))
+    numbered-then (lineTooLong x) _ (numbered-unless (leb (length x) 8192) 1 8193 (λ e. omega arith))
     (numbered-then (foundFault 3 (illFormed x)) _ (numbered-found 3 (illFormed x) (λ e. omega arith))
     (numbered-then (foundFault 4 (returnAt x)) _ (numbered-found 4 (returnAt x) (λ e. omega arith))
     (numbered-then (cond control (foundFault 5 (controlAt x)) clean) clean (numbered-cond control (foundFault 5 (controlAt x)) (numbered-found 5 (controlAt x) (λ e. omega arith))) 0)))
@@ -136,8 +138,8 @@ numbered-clean : (f : Fault) (e : ℕ) → Numbered f → lineFor f e .number �
 numbered-clean clean e a h = refl
 numbered-clean (breaks n c) e a h = absurd (a h)
 
-unended-number : (x : List ℕ) (e : ℕ) → lineFor (unended x) e .number ≡ 0 → ⊥
-unfolding unended cutList firstOf
+unended-number : (x : List ℕ) (e : ℕ) → lineFor (unendedFault x) e .number ≡ 0 → ⊥
+unfolding unendedFault unendedRules firstOf
 unended-number x e h = go (leb (length x) 8192) h
   where
     go : (b : Bool) → lineFor (unless b 1 8193 then breaks 2 (length x + 1)) e .number ≡ 0 → ⊥
@@ -147,33 +149,33 @@ unended-number x e h = go (leb (length x) 8192) h
 module _ (control : Bool) (s : List ℕ) (i : ℕ) where
   -- number 0: the line keeps rules 1 to 5, and its line feed stands at `end`
   pub line-clean : lineOf control s i .number ≡ 0
-      → (lineRules control (lineAt s i) ≡ clean) × (i + length (lineAt s i) < length s) × (lineOf control s i .end ≡ i + length (lineAt s i)) × (getD s (lineOf control s i .end) 0 ≡ 10)
-  unfolding lineOf lineFault
+      → (lineFault control (lineAt s i) ≡ clean) × (i + length (lineAt s i) < length s) × (lineOf control s i .end ≡ i + length (lineAt s i)) × (getD s (lineOf control s i .end) 0 ≡ 10)
+  unfolding lineOf lineFaultAt
   line-clean h = go (ltb (i + length (lineAt s i)) (length s)) refl h
     where
       go : (b : Bool) → ltb (i + length (lineAt s i)) (length s) ≡ b
-          → lineFor (cond b (lineRules control (lineAt s i)) (unended (lineAt s i))) (i + length (lineAt s i)) .number ≡ 0
-          → (lineRules control (lineAt s i) ≡ clean) × (i + length (lineAt s i) < length s)
-          × (lineFor (cond b (lineRules control (lineAt s i)) (unended (lineAt s i))) (i + length (lineAt s i)) .end ≡ i + length (lineAt s i))
-          × (getD s (lineFor (cond b (lineRules control (lineAt s i)) (unended (lineAt s i))) (i + length (lineAt s i)) .end) 0 ≡ 10)
+          → lineFor (cond b (lineFault control (lineAt s i)) (unendedFault (lineAt s i))) (i + length (lineAt s i)) .number ≡ 0
+          → (lineFault control (lineAt s i) ≡ clean) × (i + length (lineAt s i) < length s)
+          × (lineFor (cond b (lineFault control (lineAt s i)) (unendedFault (lineAt s i))) (i + length (lineAt s i)) .end ≡ i + length (lineAt s i))
+          × (getD s (lineFor (cond b (lineFault control (lineAt s i)) (unendedFault (lineAt s i))) (i + length (lineAt s i)) .end) 0 ≡ 10)
       go true e h =
-          let f = numbered-clean (lineRules control (lineAt s i)) _ (numbered-rules control (lineAt s i)) h in
+          let f = numbered-clean (lineFault control (lineAt s i)) _ (numbered-rules control (lineAt s i)) h in
           let k = ltb-true _ _ e in
           (f, k, rw f, rw f (line-feed s i k))
       go false e h = absurd (unended-number (lineAt s i) _ h)
 
   -- another number: the run from this line on is refused there
   pub line-broken-here : (l : ℕ) (p : Place) → i < length s → (lineOf control s i .number ≡ 0 → ⊥)
-      → ((n c : ℕ) → lineRules control (lineAt s i) ≡ breaks n c → step l p (lineAt s i) ≡ stopped n l c)
+      → ((n c : ℕ) → lineFault control (lineAt s i) ≡ breaks n c → step l p (lineAt s i) ≡ stopped n l c)
       → Going p
       → run l p (linesFrom s i) ≡ refused (lineOf control s i .number) l (lineOf control s i .column)
-  unfolding lineOf lineFault
+  unfolding lineOf lineFaultAt
   line-broken-here l p h z f g = go (ltb (i + length (lineAt s i)) (length s)) refl z
     where
       Refused : Fault → Type 0
       Refused a = run l p (linesFrom s i) ≡ refused (lineFor a (i + length (lineAt s i)) .number) l (lineFor a (i + length (lineAt s i)) .column)
 
-      ended : i + length (lineAt s i) < length s → (a : Fault) → lineRules control (lineAt s i) ≡ a
+      ended : i + length (lineAt s i) < length s → (a : Fault) → lineFault control (lineAt s i) ≡ a
           → (lineFor a (i + length (lineAt s i)) .number ≡ 0 → ⊥) → Refused a
       ended k clean e z = absurd (z refl)
       ended k (breaks n c) e z =
@@ -184,15 +186,15 @@ module _ (control : Bool) (s : List ℕ) (i : ℕ) where
       shown (breaks n c) e = refl
 
       go : (b : Bool) → ltb (i + length (lineAt s i)) (length s) ≡ b
-          → (lineFor (cond b (lineRules control (lineAt s i)) (unended (lineAt s i))) (i + length (lineAt s i)) .number ≡ 0 → ⊥)
-          → Refused (cond b (lineRules control (lineAt s i)) (unended (lineAt s i)))
-      go true e z = ended (ltb-true _ _ e) (lineRules control (lineAt s i)) refl z
+          → (lineFor (cond b (lineFault control (lineAt s i)) (unendedFault (lineAt s i))) (i + length (lineAt s i)) .number ≡ 0 → ⊥)
+          → Refused (cond b (lineFault control (lineAt s i)) (unendedFault (lineAt s i)))
+      go true e z = ended (ltb-true _ _ e) (lineFault control (lineAt s i)) refl z
       go false e z =
           let k = ltb-false _ _ e in
-          rw (lines-cut s i k) (run-cut l p (lineAt s i) (omega arith) g ∙ shown (unended (lineAt s i)) _)
+          rw (lines-cut s i k) (run-cut l p (lineAt s i) (omega arith) g ∙ shown (unendedFault (lineAt s i)) _)
 
 pub line-broken : (l : ℕ) (p : Place) (s : List ℕ) (i : ℕ) (control : Bool) → i < length s → (lineOf control s i .number ≡ 0 → ⊥)
-    → ((x : List ℕ) (n c : ℕ) → lineRules control x ≡ breaks n c → step l p x ≡ stopped n l c)
+    → ((x : List ℕ) (n c : ℕ) → lineFault control x ≡ breaks n c → step l p x ≡ stopped n l c)
     → Going p
     → run l p (linesFrom s i) ≡ refused (lineOf control s i .number) l (lineOf control s i .column)
 line-broken l p s i control h z f g = line-broken-here control s i l p h z (f (lineAt s i)) g
@@ -202,3 +204,28 @@ pub starts-next : (s : List ℕ) (l i : ℕ) → 1 ≤ l → StartsAt s l i → 
 starts-next s l i o e h =
     let n : l - 1 + 1 ≡ l + 1 - 1 = omega arith in
     sym (ap (λ (ps : List (List ℕ)). drop 1 ps) (sym e ∙ lines-more s i h)) ∙ drop-drop 1 (l - 1) (pieces 10 s) ∙ ap (λ (k : ℕ). drop k (pieces 10 s)) n
+
+-- ---- a line that keeps rules 1 to 5
+module _ (control : Bool) (s : List ℕ) (i : ℕ) (r : Line) (e : r ≡ lineOf control s i) (z : r .number ≡ 0) where
+  pub line-rules : lineFault control (lineAt s i) ≡ clean
+  line-rules = line-clean control s i (rw e at z) .0
+
+  pub line-ends : (r .end ≡ i + length (lineAt s i)) × (r .end < length s)
+  line-ends = let w = line-clean control s i (rw e at z) in rw e (w .2, omega (arith, w .1, w .2))
+
+  pub line-stops : Stop 44 s i (r .end)
+  line-stops =
+      let w = line-clean control s i (rw e at z) in
+      let d = line-ends in
+      record { inside = omega (arith, d .0); room = d .1; feed = rw e (w .3); parts = refl }
+
+  pub run-on : (l : ℕ) (p q : Place) → step l p (lineAt s i) ≡ q → run l p (linesFrom s i) ≡ run (l + 1) q (linesFrom s (r .end + 1))
+  run-on l p q f =
+      let d = line-ends in
+      run-line l p s i (omega (arith, d .0, d .1)) ∙ ap (λ (x : Place). run (l + 1) x (linesFrom s (i + length (lineAt s i) + 1))) f
+      ∙ ap (λ (j : ℕ). run (l + 1) q (linesFrom s (j + 1))) (sym (d .0))
+
+  pub starts-on : (l : ℕ) → 1 ≤ l → StartsAt s l i → StartsAt s (l + 1) (r .end + 1)
+  starts-on l k f =
+      let d = line-ends in
+      rw (d .0) (starts-next s l i k f (omega (arith, d .0, d .1)))

@@ -1,12 +1,12 @@
--- Line 1 and the comment lines: one law for each end of the code's walk.
-use Prim.Native.Nat.{ℕ, _+_, _-_, _≤_, _<_}
+-- Line 1, and the lines that rules 1 to 4 alone bind: one law for each end of the code's walks.
+use Prim.Native.Nat.{ℕ, _+_, _-_, _<_}
 use mathlib.Core.Path.{_≡_, refl, sym, ap, _∙_}
 use mathlib.Core.List.{List, [], _∷_}
-use mathlib.Core.Bool.{Bool, true, false, cond, _&&_, _||_}
+use mathlib.Core.Bool.{Bool, true, false, cond, not, _||_, _&&_, true≢false}
 use native.Mathlib.Omega.{arith}
 use lib.ListN.{length, getD, take, length-take}
 use lib.Dec.{eqb}
-use borrow.Author.Tests.{ne-eqb}
+use borrow.Author.Tests.{eqb-true, eq-eqb, ne-eqb}
 use Rattle.text.specs.Bytes.{equal}
 use Rattle.text.specs.Cells.{firstPiece, laterPieces, lineAt, cellEnd}
 use Rattle.text.proofs.CellLaws.{line-in}
@@ -15,13 +15,14 @@ use Rattle.text.proofs.SpaceLaws.{slice-take}
 use Rattle.exchange.specs.declared.lines.Line.{Line}
 use Rattle.exchange.specs.declared.top.First.{First}
 use Rattle.exchange.specs.Faults.{clean, breaks, _then_, firstOf, unless}
-use Rattle.exchange.specs.Columns.{Sort, bottle, ctd}
-use Rattle.exchange.specs.Places.{Place, first, comments, stopped, isMark, isBottle, isCtd, firstList, isComment, endList, endRules, stopAt, step, refused, run, outcomeOf}
-use Rattle.exchange.specs.RuleWords.{lineRules}
-use Rattle.exchange.specs.Walks.{linesFrom, StartsAt, lineOf, sortOf, FirstRead}
-use Rattle.exchange.proofs.CellsLaws.{cell-slice}
-use Rattle.exchange.proofs.RuleLaws.{first-step, comment-step}
-use Rattle.exchange.proofs.RunLaws.{piece-take, run-stopped, run-line, line-clean, line-broken, line-broken-here, starts-next}
+use Rattle.exchange.specs.Columns.{bottle, ctd}
+use Rattle.exchange.specs.Places.{Place, first, comments, stopped, isMark, isBottle, isCtd, firstLineRules, isComment, lastPieceRules, endRules, stopAt, step, refused, run, outcomeOf}
+use Rattle.exchange.specs.Inner.Faults.{lineFault}
+use Rattle.exchange.specs.Inner.Lines.{linesFrom, StartsAt, lineOf}
+use Rattle.exchange.specs.Inner.Top.{sortOf, FirstRead, FreePlace, commented, ended}
+use Rattle.exchange.proofs.GridWalkLaws.{cell-slice}
+use Rattle.exchange.proofs.RuleLaws.{first-step, comment-step, after-step, Going}
+use Rattle.exchange.proofs.RunLaws.{piece-take, run-stopped, run-line, line-clean, line-broken, line-broken-here, line-rules, run-on, starts-next}
 
 -- ---- the text before line 1's first comma
 first-word : (s : List ℕ) (q : ℕ) → q ≡ cellEnd 44 s 0 → take q s ≡ firstPiece 44 (lineAt s 0)
@@ -36,26 +37,13 @@ word-is s q e w r h = sym (h ∙ ap (λ (x : List ℕ). equal x w) (first-word s
 pub mark-short : (x : List ℕ) → length x < 3 → false ≡ isMark x
 mark-short x h = sym (equal-lengths (take 3 x) (0xef ∷ 0xbb ∷ 0xbf ∷ []) (λ e. omega (arith, length-take 3 x)))
 
-pub mark-bytes : (x : List ℕ) → 3 ≤ length x → (eqb (getD x 0 0) 0xef && eqb (getD x 1 0) 0xbb) && eqb (getD x 2 0) 0xbf ≡ isMark x
-unfolding equal
-mark-bytes [] h = absurd (omega arith)
-mark-bytes (a ∷ []) h = absurd (omega arith)
-mark-bytes (a ∷ b ∷ []) h = absurd (omega arith)
-mark-bytes (a ∷ b ∷ c ∷ xs) h = go (eqb a 0xef) (eqb b 0xbb) (eqb c 0xbf)
-  where
-    go : (p q r : Bool) → (p && q) && r ≡ p && (q && (r && true))
-    go true true true = refl
-    go true true false = refl
-    go true false r = refl
-    go false q r = refl
-
 -- ---- line 1
 pub first-none : (s : List ℕ) → length s ≡ 0 → outcomeOf s ≡ refused 14 1 1
-unfolding outcomeOf run endRules endList firstOf firstPiece laterPieces
+unfolding outcomeOf run endRules lastPieceRules firstOf firstPiece laterPieces
 first-none [] h = refl
 first-none (x ∷ s) h = absurd (omega arith)
 
-first-breaks : (x : List ℕ) (n c : ℕ) → lineRules true x ≡ breaks n c → step 1 first x ≡ stopped n 1 c
+first-breaks : (x : List ℕ) (n c : ℕ) → lineFault true x ≡ breaks n c → step 1 first x ≡ stopped n 1 c
 first-breaks x n c e = first-step 1 x ∙ rw e
 
 module _ (s : List ℕ) (l : Line) (e : l ≡ lineOf true s 0) where
@@ -74,12 +62,12 @@ module _ (s : List ℕ) (l : Line) (e : l ≡ lineOf true s 0) where
         let d : l .end ≡ length (lineAt s 0) = rw e (omega (arith, w .2)) in
         rw d (piece-take 10 s)
 
-    first-run : outcomeOf s ≡ run 2 (stopAt 1 (firstOf (firstList (lineAt s 0))) (comments (cond (isBottle (lineAt s 0)) bottle ctd))) (linesFrom s (l .end + 1))
+    first-run : outcomeOf s ≡ run 2 (stopAt 1 (firstOf (firstLineRules (lineAt s 0))) (comments (cond (isBottle (lineAt s 0)) bottle ctd))) (linesFrom s (l .end + 1))
     unfolding outcomeOf
     first-run =
         let w = line-clean true s 0 (rw e at z) in
         let d : 0 + length (lineAt s 0) ≡ l .end = rw e (sym (w .2)) in
-        let f : step 1 first (lineAt s 0) ≡ stopAt 1 (firstOf (firstList (lineAt s 0))) (comments (cond (isBottle (lineAt s 0)) bottle ctd))
+        let f : step 1 first (lineAt s 0) ≡ stopAt 1 (firstOf (firstLineRules (lineAt s 0))) (comments (cond (isBottle (lineAt s 0)) bottle ctd))
         = first-step 1 (lineAt s 0) ∙ rw (w .0) in
         run-line 1 first s 0 (w .1) ∙ ap (λ (p : Place). run 2 p (linesFrom s (0 + length (lineAt s 0) + 1))) f ∙ rw d
 
@@ -90,14 +78,14 @@ module _ (s : List ℕ) (l : Line) (e : l ≡ lineOf true s 0) where
         rw d at (starts-next s 1 0 (omega arith) refl (w .1))
 
     pub first-marked : isMark (take (l .end) s) ≡ true → outcomeOf s ≡ refused 6 1 1
-    unfolding firstList firstOf
+    unfolding firstLineRules firstOf
     first-marked m =
         let a : isMark (lineAt s 0) ≡ true = rw first-text at m in
         first-run ∙ rw a (run-stopped 2 6 1 1 (linesFrom s (l .end + 1)))
 
     module _ (m : isMark (take (l .end) s) ≡ false) (kind : ℕ) (b : kind ≡ cond (isBottle (lineAt s 0)) 1 (cond (isCtd (lineAt s 0)) 2 0)) where
       pub first-neither : kind ≡ 0 → outcomeOf s ≡ refused 7 1 1
-      unfolding firstList firstOf
+      unfolding firstLineRules firstOf
       first-neither q =
           let a : isMark (lineAt s 0) ≡ false = rw first-text at m in
           let n = go (isBottle (lineAt s 0)) (isCtd (lineAt s 0)) (sym b ∙ q) in
@@ -109,7 +97,7 @@ module _ (s : List ℕ) (l : Line) (e : l ≡ lineOf true s 0) where
           go false false h = (refl, refl)
 
       pub first-on : (kind ≡ 0 → ⊥) → outcomeOf s ≡ run 2 (comments (sortOf kind)) (linesFrom s (l .end + 1))
-      unfolding firstList firstOf
+      unfolding firstLineRules firstOf
       first-on q =
           let a : isMark (lineAt s 0) ≡ false = rw first-text at m in
           first-run ∙ rw a (go (isBottle (lineAt s 0)) (isCtd (lineAt s 0)) b)
@@ -120,37 +108,40 @@ module _ (s : List ℕ) (l : Line) (e : l ≡ lineOf true s 0) where
           go false true h = rw h
           go false false h = absurd (q h)
 
--- ---- comment lines
+-- ---- comment lines, and the lines after END_DATA
 comment-line : (s : List ℕ) (i : ℕ) → i < length s → getD s i 0 ≡ 35 → isComment (lineAt s i) ≡ true
 unfolding equal
 comment-line s i h e = rw (line-in s i h (ne-eqb (getD s i 0) 10 (λ z. omega arith))) (rw e)
 
-module _ (s : List ℕ) (i : ℕ) (h : i < length s) (b : getD s i 0 ≡ 35) (l : Line) (e : l ≡ lineOf false s i) where
-  pub comment-broken : (k : Sort) (n : ℕ) → (l .number ≡ 0 → ⊥) → run n (comments k) (linesFrom s i) ≡ refused (l .number) n (l .column)
-  comment-broken k n z =
+free-step : {only : Bool} {p : Place} → FreePlace only p → (l : ℕ) (x : List ℕ) → (only ≡ true → isComment x ≡ true) → step l p x ≡ stopAt l (lineFault false x) p
+free-step (commented {k}) l x c = comment-step l k x (c refl)
+free-step (ended {t} {n}) l x c = after-step l t n x
+
+free-going : {only : Bool} {p : Place} → FreePlace only p → Going p
+free-going commented = tt
+free-going ended = tt
+
+pub only-comment : (only : Bool) (b : ℕ) → (only && not (eqb b 35)) ≡ false → only ≡ true → b ≡ 35
+only-comment true b h e = go (eqb b 35) refl h
+  where
+    go : (z : Bool) → eqb b 35 ≡ z → not z ≡ false → b ≡ 35
+    go true q h = eqb-true b 35 q
+    go false q h = absurd (true≢false h)
+only-comment false b h e = absurd (true≢false (sym e))
+
+pub only-other : (only : Bool) (b : ℕ) → (only && not (eqb b 35)) ≡ true → (only ≡ true) × (b ≡ 35 → ⊥)
+only-other true b h = (refl, λ e. true≢false (sym (rw (eq-eqb b 35 e) at h)))
+only-other false b h = absurd (true≢false (sym h))
+
+module _ {only : Bool} {p : Place} (w : FreePlace only p) (s : List ℕ) (i : ℕ) (h : i < length s) (c : only ≡ true → getD s i 0 ≡ 35) (l : Line) (e : l ≡ lineOf false s i) where
+  pub free-broken : (n : ℕ) → (l .number ≡ 0 → ⊥) → run n p (linesFrom s i) ≡ refused (l .number) n (l .column)
+  free-broken n z =
       rw e
-      (line-broken-here false s i n (comments k) h (rw e at z)
-      (λ (m c : ℕ) (d : lineRules false (lineAt s i) ≡ breaks m c). comment-step n k (lineAt s i) (comment-line s i h b) ∙ rw d) tt)
+      (line-broken-here false s i n p h (rw e at z)
+      (λ (m k : ℕ) (d : lineFault false (lineAt s i) ≡ breaks m k). free-step w n (lineAt s i) (λ q. comment-line s i h (c q)) ∙ rw d) (free-going w))
 
-  module _ (z : l .number ≡ 0) where
-    pub comment-room : (i < l .end) × (l .end < length s)
-    comment-room =
-        let w = line-clean false s i (rw e at z) in
-        let d = line-in s i h (ne-eqb (getD s i 0) 10 (λ z. omega arith)) in
-        rw e (omega (arith, w .1, w .2, ap length d), omega (arith, w .1, w .2))
-
-    pub comment-counted : (n : ℕ) → 1 ≤ n → StartsAt s n i → StartsAt s (n + 1) (l .end + 1)
-    comment-counted n o y =
-        let w = line-clean false s i (rw e at z) in
-        let d : i + length (lineAt s i) ≡ l .end = rw e (sym (w .2)) in
-        rw d at (starts-next s n i o y (w .1))
-
-    pub comment-on : (k : Sort) (n : ℕ) → run n (comments k) (linesFrom s i) ≡ run (n + 1) (comments k) (linesFrom s (l .end + 1))
-    comment-on k n =
-        let w = line-clean false s i (rw e at z) in
-        let d : i + length (lineAt s i) ≡ l .end = rw e (sym (w .2)) in
-        let f : step n (comments k) (lineAt s i) ≡ comments k = comment-step n k (lineAt s i) (comment-line s i h b) ∙ rw (w .0) in
-        run-line n (comments k) s i (w .1) ∙ ap (λ (p : Place). run (n + 1) p (linesFrom s (i + length (lineAt s i) + 1))) f ∙ rw d
+  pub free-on : l .number ≡ 0 → (n : ℕ) → run n p (linesFrom s i) ≡ run (n + 1) p (linesFrom s (l .end + 1))
+  free-on z n = run-on false s i l e z n p p (free-step w n (lineAt s i) (λ q. comment-line s i h (c q)) ∙ rw (line-rules false s i l e z))
 
 -- ---- what the calls promise
 pub first-stopped : (s : List ℕ) (r : First) (n c : ℕ) → r .number ≡ n → r .column ≡ c → (n ≡ 0 → ⊥) → outcomeOf s ≡ refused n 1 c → FirstRead s r

@@ -26,14 +26,14 @@ use Rattle.exchange.specs.Headers.{Header, headerOf, rawName, nameOf, va
 use Rattle.exchange.specs.Columns.{namesOf}
 use Rattle.exchange.specs.Grid.{cellSpan}
 use Rattle.exchange.specs.Records.{Value, given, absent, headerPlace, headerValue, numberIn, timeIn, castTime}
-use Rattle.exchange.specs.Walks.{textIn, namesAt}
-use Rattle.exchange.specs.HeadersWords.{Parted, LineStands, HeaderLines, none, more}
-use Rattle.exchange.specs.ColumnWords.{CellsFound}
-use Rattle.exchange.specs.RowsWords.{cellsOf}
-use Rattle.exchange.specs.ValueWords.{ValueRead, ColumnsStand, valueIn}
+use Rattle.exchange.specs.Inner.Names.{textIn, namesAt}
+use Rattle.exchange.specs.Inner.Headers.{Parted, LineStands, HeaderLines, none, more}
+use Rattle.exchange.specs.Inner.Columns.{CellsFound}
+use Rattle.exchange.specs.Inner.Rows.{lineCells}
+use Rattle.exchange.specs.Inner.Values.{ValueRead, ColumnsStand, valueIn}
 use Rattle.exchange.proofs.HeaderLaws.{part-name, value-cell, value-stop}
 use Rattle.exchange.proofs.GridLaws.{SpanAt, span-at}
-use Rattle.exchange.proofs.AskLaws.{size-anywhere}
+use Rattle.exchange.proofs.CellLaws.{size-anywhere}
 
 -- the code's test that there is none
 pub not-so : (b : Bool) → not b ≡ true → b ≡ false
@@ -154,10 +154,10 @@ module _ {s : List ℕ} {place i : ℕ} (w : ColumnsStand s place i) (c : Cells)
     column-none h = rw (le-ltb (placeIn name (namesOf (lineAt s place))) (length (namesOf (lineAt s place))) (omega (arith, all-found, column-is)))
 
     module _ (h : k < c .count) where
-      value-is : valueIn s place i name ≡ given (getD (cellsOf s i) k []) (cellSpan s i k)
+      value-is : valueIn s place i name ≡ given (getD (lineCells s i) k []) (cellSpan s i k)
       unfolding valueIn
       value-is = rw (lt-ltb (placeIn name (namesOf (lineAt s place))) (length (namesOf (lineAt s place))) (omega (arith, all-found, column-is)))
-          (ap (λ (n : ℕ). given (getD (cellsOf s i) n []) (cellSpan s i n)) (sym column-is))
+          (ap (λ (n : ℕ). given (getD (lineCells s i) n []) (cellSpan s i n)) (sym column-is))
 
       pub column-found : (e : ℕ) (p : Span) → e ≡ i + length (lineAt s i) → p ≡ cellSpan s i k
           → ValueRead s (valueIn s place i name) (record { found = true; separator = 44; start = p .start; len = p .len; feed = e })
@@ -186,7 +186,7 @@ module _ (n : ℕ) (j : Judged) where
   time-told (good m v d) e h = let z : m ≡ false = rw e at h in rw (z, e)
 
 module _ {s : List ℕ} {x : Value} {v : ValueAt} (w : ValueRead s x v) where
-  pub number-none : (kind : ℕ) → not (v .found) ≡ true → 0 ≡ numberIn kind x
+  pub number-none : (kind : ℕ) → not (v .found) ≡ true → 0 ≡ numberIn (kindOf kind) x
   number-none kind h = rw (w .none (not-so (v .found) h))
 
   pub time-none : not (v .found) ≡ true → Missing ≡ castTime x
@@ -199,12 +199,14 @@ module _ {s : List ℕ} {x : Value} {v : ValueAt} (w : ValueRead s x v) where
     judged-is : j ≡ judgedOf (cellEnd (v .separator) s (v .start)) verdict
     judged-is = ej ∙ judged-stop (w .stop (so (v .found) h)) kind
 
-    pub number-some : j .size ≡ numberIn kind x
+    pub number-some : j .size ≡ numberIn (kindOf kind) x
     number-some = rw (w .some (so (v .found) h)) (ap (λ (y : Judged). y .size) judged-is ∙ size-anywhere (cellEnd (v .separator) s (v .start)) verdict)
 
   module _ (h : not (v .found) ≡ false) (j : Judged) (ej : j ≡ judgedAt 10 (v .separator) s (v .start) (v .feed)) where
     pub time-missing : (not (eqb (j .number) 0) || j .minus) ≡ true → Missing ≡ castTime x
+    unfolding kindOf
     time-missing z = rw (w .some (so (v .found) h)) (time-lacking (cellEnd (v .separator) s (v .start)) j (verdict h 10 j ej) (judged-is h 10 j ej) z)
 
     pub time-given : (not (eqb (j .number) 0) || j .minus) ≡ false → Given (j .size / 100) (j .size % 100) ≡ castTime x
+    unfolding kindOf
     time-given z = rw (w .some (so (v .found) h)) (time-told (cellEnd (v .separator) s (v .start)) j (verdict h 10 j ej) (judged-is h 10 j ej) z)

@@ -1,7 +1,7 @@
 -- Document 01, "Profiles" and "Refusal numbers": what the calls answer, by the file's outcome.
 use Prim.Native.Nat.{ℕ, _+_, _-_}
 use mathlib.Core.List.{List, [], _∷_, map}
-use mathlib.Core.Bool.{cond, _&&_, _||_}
+use mathlib.Core.Bool.{Bool, cond, _&&_, _||_}
 use lib.ListN.{length, getD, take, drop}
 use lib.Dec.{eqb, leb}
 use Rattle.text.specs.declared.Span.{Span}
@@ -9,7 +9,7 @@ use Rattle.text.specs.declared.Reading.{Reading}
 use Rattle.text.specs.declared.Reading.the-variants.{Refused}
 use Rattle.text.specs.Cells.{pieces}
 use Rattle.text.specs.Spaces.{trimSpan}
-use Rattle.text.specs.Kinds.{kindOf}
+use Rattle.text.specs.Kinds.{flag, ctdFlag, kindOf, codeOf}
 use Rattle.text.specs.Judge.{judge, judgedOf}
 use Rattle.text.specs.Reading.{readingOf}
 use Rattle.text.specs.Verdicts.{sizeOf}
@@ -20,7 +20,7 @@ use Rattle.exchange.specs.declared.Flagged.{Flagged}
 use Rattle.exchange.specs.declared.CellPlace.{CellPlace}
 use Rattle.exchange.specs.Columns.{Sort, bottle, ctd, kindsOf}
 use Rattle.exchange.specs.Places.{Table, Outcome, accepted, refused, outcomeOf}
-use Rattle.exchange.specs.Grid.{starts, spanIn}
+use Rattle.exchange.specs.Grid.{starts, nowhere, spanIn}
 use Rattle.exchange.specs.Profiles.{grid, missingInRows, keyOf, runCount}
 
 -- the rows of an accepted file: the n data lines after those that stand before the first
@@ -39,6 +39,7 @@ profilesBy ctd n = 1
 abbrev pub profilesOf : Table → ℕ → List ℕ → ℕ
 profilesOf t n f = profilesBy (t .sort) (runCount (map (keyOf (kindsOf (t .names))) (rowsIn t n f)))
 
+-- the kind of file in the check's answer
 abbrev pub kindBy : Sort → FileKind
 kindBy bottle = Bottle
 kindBy ctd = Ctd
@@ -61,12 +62,16 @@ unfoldable pub checkedOf : List ℕ → Checked
 checkedOf f = checkedBy f (outcomeOf f)
 
 -- ---- a row and a column, from 1 each: those of an accepted file's table, or the file's refusal, or 21
+-- row r and column c are there, the table having n rows
+abbrev pub isThere : Table → ℕ → ℕ → ℕ → Bool
+isThere t n r c = leb 1 r && leb r n && (leb 1 c && leb c (length (t .names)))
+
 pub data Asked : Type 0 where
   found : Table → Asked
   missed : (number line column : ℕ) → Asked
 
 abbrev pub askedBy : ℕ → ℕ → Outcome → Asked
-askedBy r c (accepted t n) = cond (leb 1 r && leb r n && (leb 1 c && leb c (length (t .names)))) (found t) (missed 21 0 0)
+askedBy r c (accepted t n) = cond (isThere t n r c) (found t) (missed 21 0 0)
 askedBy r c (refused a b d) = missed a b d
 
 unfoldable pub askedOf : List ℕ → ℕ → ℕ → Asked
@@ -91,7 +96,7 @@ trimmedPlace f p = trimSpan f (p .start) (p .start + p .len)
 
 abbrev pub cellBy : List ℕ → ℕ → ℕ → Asked → Span
 cellBy f r c (found t) = trimmedPlace f (cellPlace t f r c)
-cellBy f r c (missed a b d) = record { start = 0; len = 0 }
+cellBy f r c (missed a b d) = nowhere
 
 unfoldable pub cellOf : List ℕ → ℕ → ℕ → Span
 cellOf f r c = cellBy f r c (askedOf f r c)
@@ -120,7 +125,7 @@ readingFor f r c = readingBy f r c (askedOf f r c)
 -- a flag: of a flag column; 22 for another; 0 where refused
 abbrev pub flaggedBy : List ℕ → ℕ → ℕ → Asked → Flagged
 flaggedBy f r c (found t) =
-    cond (eqb (kindAt t c) 4 || eqb (kindAt t c) 5)
+    cond (eqb (kindAt t c) (codeOf flag) || eqb (kindAt t c) (codeOf ctdFlag))
     (record { number = 0; line = 0; column = 0; flag = sizeOf (judge (kindOf (kindAt t c)) (cellText t f r c)) })
     (record { number = 22; line = 0; column = 0; flag = 0 })
 flaggedBy f r c (missed a b d) = record { number = a; line = b; column = d; flag = 0 }

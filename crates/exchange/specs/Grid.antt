@@ -1,9 +1,9 @@
 -- Document 01, "Lines": where lines and cells stand in a file, from the lengths of its pieces alone.
 use Prim.Native.Nat.{ℕ, zero, suc, _+_}
 use mathlib.Core.List.{List, [], _∷_, map}
-use mathlib.Core.Bool.{Bool, cond}
+use mathlib.Core.Bool.{cond}
 use lib.ListN.{length, getD, drop}
-use lib.Dec.{eqb, ltb}
+use lib.Dec.{ltb}
 use Rattle.text.specs.declared.Span.{Span}
 use Rattle.text.specs.Cells.{lineAt, pieces}
 
@@ -17,23 +17,14 @@ starts (w ∷ ws) (suc k) = w + 1 + starts ws k
 unfoldable pub lineStart : List ℕ → ℕ → ℕ → ℕ
 lineStart s i k = cond (ltb k (length (pieces 10 (drop i s)))) (i + starts (map length (pieces 10 (drop i s))) k) (length s)
 
--- the place of cell k, from 0, of the cells ts, the first of which starts at i, with its spaces; the empty place at the start of the file where there is none
+-- the place of nothing: the empty part at the file's start
+abbrev pub nowhere : Span
+nowhere = record { start = 0; len = 0 }
+
+-- the place of cell k, from 0, of the cells ts, the first of which starts at i, with its spaces; nowhere where there is none
 unfoldable pub spanIn : ℕ → List (List ℕ) → ℕ → Span
-spanIn i ts k = cond (ltb k (length ts)) (record { start = i + starts (map length ts) k; len = length (getD ts k []) }) (record { start = 0; len = 0 })
+spanIn i ts k = cond (ltb k (length ts)) (record { start = i + starts (map length ts) k; len = length (getD ts k []) }) nowhere
 
 -- of the line that starts at i
 abbrev pub cellSpan : List ℕ → ℕ → ℕ → Span
 cellSpan s i k = spanIn i (pieces 44 (lineAt s i)) k
-
--- for the code's inner functions: how many line feeds a list has; how many bytes go up to and with its k-th line feed, all where it has fewer
-unfoldable pub feedsIn : List ℕ → ℕ
-feedsIn [] = 0
-feedsIn (x ∷ xs) = cond (eqb x 10) 1 0 + feedsIn xs
-
-unfoldable pub skip : ℕ → List ℕ → ℕ
-skip zero xs = 0
-skip (suc k) [] = 0
-skip (suc k) (x ∷ xs) = suc (cond (eqb x 10) (skip k xs) (skip (suc k) xs))
-
-abbrev pub skipped : List ℕ → ℕ → ℕ → ℕ
-skipped s i k = i + skip k (drop i s)

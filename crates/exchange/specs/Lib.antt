@@ -9,14 +9,4 @@ pub mod Profiles
 pub mod Answers
 pub mod Located
 pub mod Records
-pub mod RuleWords
-pub mod Walks
-pub mod LineWords
-pub mod NameWords
-pub mod HeadersWords
-pub mod ColumnWords
-pub mod RowsWords
-pub mod ProfileWords
-pub mod ValueWords
-pub mod SurveyWords
-pub mod AskWords
+pub mod Inner

@@ -15,16 +15,18 @@ abbrev pub foundFault : ℕ → Found → Fault
 foundFault n (At i) = breaks n (i + 1)
 foundFault n Nowhere = clean
 
-abbrev pub tooLong : List ℕ → Fault
-tooLong x = unless (leb (length x) 8192) 1 8193
+-- 1, whether the line has its line feed or not
+abbrev pub lineTooLong : List ℕ → Fault
+lineTooLong x = unless (leb (length x) 8192) 1 8193
+
+-- 3, 4 and, where it is asked, 5
+unfoldable pub byteRules : Bool → List ℕ → List Fault
+byteRules control x = foundFault 3 (illFormed x) ∷ foundFault 4 (returnAt x) ∷ cond control (foundFault 5 (controlAt x)) clean ∷ []
 
 -- a line that has its line feed
-unfoldable pub byteList : Bool → List ℕ → List Fault
-byteList control x = foundFault 3 (illFormed x) ∷ foundFault 4 (returnAt x) ∷ cond control (foundFault 5 (controlAt x)) clean ∷ []
+unfoldable pub lineRules : Bool → List ℕ → List Fault
+lineRules control x = lineTooLong x ∷ byteRules control x
 
-unfoldable pub lineList : Bool → List ℕ → List Fault
-lineList control x = tooLong x ∷ byteList control x
-
--- the last line, where it has none: 1 or 2, one past its end
-unfoldable pub cutList : List ℕ → List Fault
-cutList x = tooLong x ∷ breaks 2 (length x + 1) ∷ []
+-- the last line, where it has none: 1, then 2, shown one past its end
+unfoldable pub unendedRules : List ℕ → List Fault
+unendedRules x = lineTooLong x ∷ breaks 2 (length x + 1) ∷ []

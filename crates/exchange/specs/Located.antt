@@ -1,15 +1,17 @@
 -- Document 01, "The words of demand 3": a measurement's cells are its value cell and, if there is one, that row's cell in its flag column.
 -- What the correcting part asks of a file: where these cells stand, with their spaces, and what column they are of.
 use Prim.Native.Nat.{ℕ, _-_}
-use mathlib.Core.List.{List, [], _∷_, map}
+use mathlib.Core.List.{List, [], _∷_}
 use mathlib.Core.Bool.{Bool, false, cond}
 use lib.ListN.{getD}
 use lib.Dec.{eqb, ltb}
 use Rattle.text.specs.declared.Span.{Span}
 use Rattle.text.specs.Names.{beginsCtd}
+use Rattle.text.specs.Kinds.{measured, codeOf}
 use Rattle.exchange.specs.declared.Located.{Located}
-use Rattle.exchange.specs.Columns.{Column, columnsOf}
+use Rattle.exchange.specs.Columns.{flagsOf}
 use Rattle.exchange.specs.Places.{Table, Outcome, accepted, refused, outcomeOf}
+use Rattle.exchange.specs.Grid.{nowhere}
 use Rattle.exchange.specs.Answers.{Asked, found, missed, askedOf, kindAt, cellPlace}
 
 -- the name of column c, counted from 1; whether it is measured; the column of its flags, 0 where it has none
@@ -17,17 +19,13 @@ abbrev pub nameAt : Table → ℕ → List ℕ
 nameAt t c = getD (t .names) (c - 1) []
 
 abbrev pub isMeasured : Table → ℕ → Bool
-isMeasured t c = eqb (kindAt t c) 0
+isMeasured t c = eqb (kindAt t c) (codeOf measured)
 
 unfoldable pub flagColumn : Table → ℕ → ℕ
-flagColumn t c = getD (map (λ (x : Column). x .flag) (columnsOf (t .names))) (c - 1) 0
+flagColumn t c = getD (flagsOf (t .names)) (c - 1) 0
 
 abbrev pub hasFlag : Table → ℕ → Bool
 hasFlag t c = ltb 0 (flagColumn t c)
-
--- the place of nothing: the empty part at the file's start
-abbrev pub nowhere : Span
-nowhere = record { start = 0; len = 0 }
 
 -- the cell of row r in the flag column of column c
 abbrev pub flagPlace : Table → List ℕ → ℕ → ℕ → Span

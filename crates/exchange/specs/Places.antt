@@ -8,10 +8,10 @@ use lib.Dec.{eqb}
 use Rattle.text.specs.Bytes.{bytes, equal}
 use Rattle.text.specs.Cells.{firstPiece, pieces}
 use Rattle.exchange.specs.Faults.{Fault, clean, breaks, firstOf, unless}
-use Rattle.exchange.specs.LineRules.{lineList, cutList}
-use Rattle.exchange.specs.Headers.{Header, headerOf, namesIn, headersSaid, firstHeaderList, headerList, lastHeader}
-use Rattle.exchange.specs.Columns.{Sort, bottle, ctd, namesOf, namesList}
-use Rattle.exchange.specs.Rows.{dataList, isEndData}
+use Rattle.exchange.specs.LineRules.{lineRules, unendedRules}
+use Rattle.exchange.specs.Headers.{Header, headerOf, namesIn, headersSaid, firstHeaderRules, headerRules, lastHeaderRules}
+use Rattle.exchange.specs.Columns.{Sort, bottle, ctd, namesOf, namesLineRules}
+use Rattle.exchange.specs.Rows.{dataLineRules, isEndData}
 
 -- a file's table: its headers, the names of its columns, and how many lines stand before its first data line
 pub record Table : Type 0 where
@@ -42,41 +42,41 @@ isBottle x = equal (firstPiece 44 x) (bytes "BOTTLE")
 abbrev pub isCtd : List ℕ → Bool
 isCtd x = equal (firstPiece 44 x) (bytes "CTD")
 
-unfoldable pub firstList : List ℕ → List Fault
-firstList x = unless (not (isMark x)) 6 1 ∷ unless (isBottle x || isCtd x) 7 1 ∷ []
+unfoldable pub firstLineRules : List ℕ → List Fault
+firstLineRules x = unless (not (isMark x)) 6 1 ∷ unless (isBottle x || isCtd x) 7 1 ∷ []
 
 -- ---- comment lines, which start with #; the first line that is none
 abbrev pub isComment : List ℕ → Bool
 isComment x = equal (take 1 x) (35 ∷ [])
 
-abbrev pub topList : Sort → List ℕ → List Fault
-topList bottle x = namesList bottle x
-topList ctd x = firstHeaderList x ++ lastHeader (headersSaid x - 1) (headerOf x ∷ [])
+abbrev pub topRules : Sort → List ℕ → List Fault
+topRules bottle x = namesLineRules bottle x
+topRules ctd x = firstHeaderRules x ++ lastHeaderRules (headersSaid x - 1) (headerOf x ∷ [])
 
 -- ---- the rules of a line that has its line feed, at its place
 unfoldable pub rulesAt : Place → List ℕ → List Fault
-rulesAt first x = lineList true x ++ firstList x
-rulesAt (comments k) x = cond (isComment x) (lineList false x) (lineList true x ++ topList k x)
-rulesAt (headers due hs) x = lineList true x ++ (headerList (namesIn hs) x ++ lastHeader (due - 1) (hs ++ headerOf x ∷ []))
-rulesAt (names k hs) x = lineList true x ++ namesList k x
-rulesAt (units k hs ns) x = lineList true x ++ unless (eqb (length (pieces 44 x)) (length ns)) 15 1 ∷ []
-rulesAt (rows t n) x = lineList true x ++ cond (isEndData x) (unless (not (eqb n 0)) 19 1 ∷ []) (dataList n (t .names) (pieces 44 x))
-rulesAt (after t n) x = lineList false x
+rulesAt first x = lineRules true x ++ firstLineRules x
+rulesAt (comments k) x = cond (isComment x) (lineRules false x) (lineRules true x ++ topRules k x)
+rulesAt (headers due hs) x = lineRules true x ++ (headerRules (namesIn hs) x ++ lastHeaderRules (due - 1) (hs ++ headerOf x ∷ []))
+rulesAt (names k hs) x = lineRules true x ++ namesLineRules k x
+rulesAt (units k hs ns) x = lineRules true x ++ unless (eqb (length (pieces 44 x)) (length ns)) 15 1 ∷ []
+rulesAt (rows t n) x = lineRules true x ++ cond (isEndData x) (unless (not (eqb n 0)) 19 1 ∷ []) (dataLineRules n (t .names) (pieces 44 x))
+rulesAt (after t n) x = lineRules false x
 rulesAt (stopped a b c) x = []
 
 -- ---- what stands after the last line feed: nothing, which is 14 where a line is due, or a line that has no line feed
-unfoldable pub endList : Bool → List ℕ → List Fault
-endList due [] = unless (not due) 14 1 ∷ []
-endList due (x ∷ xs) = cutList (x ∷ xs)
+unfoldable pub lastPieceRules : Bool → List ℕ → List Fault
+lastPieceRules due [] = unless (not due) 14 1 ∷ []
+lastPieceRules due (x ∷ xs) = unendedRules (x ∷ xs)
 
 unfoldable pub endRules : Place → List ℕ → List Fault
-endRules first x = endList true x
-endRules (comments k) x = endList true x
-endRules (headers due hs) x = endList true x
-endRules (names k hs) x = endList true x
-endRules (units k hs ns) x = endList true x
-endRules (rows t n) x = endList true x
-endRules (after t n) x = endList false x
+endRules first x = lastPieceRules true x
+endRules (comments k) x = lastPieceRules true x
+endRules (headers due hs) x = lastPieceRules true x
+endRules (names k hs) x = lastPieceRules true x
+endRules (units k hs ns) x = lastPieceRules true x
+endRules (rows t n) x = lastPieceRules true x
+endRules (after t n) x = lastPieceRules false x
 endRules (stopped a b c) x = []
 
 -- ---- the place of the line after line l, no rule being looked at

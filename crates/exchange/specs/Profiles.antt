@@ -1,14 +1,13 @@
 -- Document 01, "Profiles": in a bottle file a profile is a longest run of consecutive rows with equal EXPOCODE, equal STNNBR (trimmed bytes) and equal
 -- CASTNO (as numbers); a CTD file is one profile. The missing readings are the pairs of a row and a measured column that read as missing.
-use Prim.Native.Nat.{ℕ, zero, suc, _+_}
+use Prim.Native.Nat.{ℕ, _+_}
 use mathlib.Core.List.{List, [], _∷_, map}
-use mathlib.Core.Bool.{Bool, true, false, cond, _&&_}
-use lib.ListN.{length, getD, take, drop}
+use mathlib.Core.Bool.{Bool, cond, _&&_}
 use lib.Dec.{eqb}
 use Rattle.text.specs.Bytes.{equal}
 use Rattle.text.specs.Cells.{pieces}
 use Rattle.text.specs.Spaces.{trim}
-use Rattle.text.specs.Kinds.{kindOf}
+use Rattle.text.specs.Kinds.{expocode, stnnbr, castno, kindOf, codeOf}
 use Rattle.text.specs.Judge.{judge}
 use Rattle.text.specs.Verdicts.{sizeOf}
 use Rattle.text.specs.Rows.{missingIn}
@@ -41,9 +40,9 @@ pub record Key : Type 0 where
 
 abbrev pub keyOf : List ℕ → List (List ℕ) → Key
 keyOf ks ts = record {
-  expocode = trim (cellOfKind 6 [] ks ts);
-  stnnbr = trim (cellOfKind 7 [] ks ts);
-  castno = sizeOf (judge (kindOf 8) (cellOfKind 8 [] ks ts));
+  expocode = trim (cellOfKind (codeOf expocode) [] ks ts);
+  stnnbr = trim (cellOfKind (codeOf stnnbr) [] ks ts);
+  castno = sizeOf (judge castno (cellOfKind (codeOf castno) [] ks ts));
 }
 
 abbrev pub sameKey : Key → Key → Bool

@@ -2,14 +2,14 @@
 -- first row; in a CTD file the last two and the time come from the headers, even if a column has that name.
 use Prim.Native.Nat.{ℕ, _+_, _-_, _/_, _%_}
 use mathlib.Core.List.{List, [], _∷_, map}
-use mathlib.Core.Bool.{Bool, true, false, cond}
+use mathlib.Core.Bool.{cond}
 use lib.ListN.{length, getD}
 use lib.Dec.{ltb}
 use Rattle.text.specs.declared.Span.{Span}
 use Rattle.text.specs.Bytes.{bytes, equal}
 use Rattle.text.specs.Cells.{pieces}
 use Rattle.text.specs.Verdicts.{Verdict, blank, wrong, outOfRange, good, sizeOf}
-use Rattle.text.specs.Kinds.{kindOf}
+use Rattle.text.specs.Kinds.{Kind, castno, date, time}
 use Rattle.text.specs.Judge.{judge}
 use Rattle.exchange.specs.declared.CastTime.{CastTime}
 use Rattle.exchange.specs.declared.CastTime.the-variants.{Given, Missing}
@@ -19,10 +19,9 @@ use Rattle.exchange.specs.Faults.{placeIn}
 use Rattle.exchange.specs.Headers.{rawName, valueOf, Header}
 use Rattle.exchange.specs.Columns.{Sort, bottle, ctd, kindsOf}
 use Rattle.exchange.specs.Places.{Table, Outcome, accepted, refused, outcomeOf}
-use Rattle.exchange.specs.Grid.{starts}
+use Rattle.exchange.specs.Grid.{starts, nowhere}
 use Rattle.exchange.specs.Profiles.{Key, keyOf, labels, rowsOf}
 use Rattle.exchange.specs.Answers.{rowsIn, cellText, cellPlace, trimmedPlace}
-use Rattle.exchange.specs.Located.{nowhere}
 
 -- ---- the value of a name: its text with its spaces, and where it stands; or there is none
 pub data Value : Type 0 where
@@ -70,9 +69,9 @@ unfoldable pub profileRows : Table → ℕ → List ℕ → ℕ → List ℕ
 profileRows t n f k = rowsOf k 1 (labelsBy (t .sort) (map (keyOf (kindsOf (t .names))) (rowsIn t n f)))
 
 -- ---- the record
--- the number that a value of a kind writes
-abbrev pub numberIn : ℕ → Value → ℕ
-numberIn k (given x p) = sizeOf (judge (kindOf k) x)
+-- the number that a value of a kind writes; 0 where there is none
+abbrev pub numberIn : Kind → Value → ℕ
+numberIn k (given x p) = sizeOf (judge k x)
 numberIn k absent = 0
 
 -- -999 is minus 999 as a time (Judge: timeOf)
@@ -84,7 +83,7 @@ timeIn (good m v d) = cond m Missing (Given (v / 100) (v % 100))
 
 -- missing too where there is no TIME
 abbrev pub castTime : Value → CastTime
-castTime (given x p) = timeIn (judge (kindOf 10) x)
+castTime (given x p) = timeIn (judge time x)
 castTime absent = Missing
 
 abbrev pub noProfile : ℕ → ℕ → ℕ → ProfileRecord
@@ -100,8 +99,8 @@ recordOf t f (r ∷ rs) = record {
   time = castTime (stationValue t f r (bytes "TIME"));
   first = r;
   rows = length (r ∷ rs);
-  castno = numberIn 8 (stationValue t f r (bytes "CASTNO"));
-  date = numberIn 9 (stationValue t f r (bytes "DATE"));
+  castno = numberIn castno (stationValue t f r (bytes "CASTNO"));
+  date = numberIn date (stationValue t f r (bytes "DATE"));
 }
 
 abbrev pub profileBy : List ℕ → ℕ → Outcome → ProfileRecord

@@ -11,22 +11,23 @@ use Rattle.text.specs.Judge.{judge}
 use Rattle.exchange.specs.Faults.{Fault, unless, kindFault}
 use Rattle.exchange.specs.Columns.{kindsOf}
 
--- the cells from the one at column c
-unfoldable pub cellList : ℕ → List ℕ → List (List ℕ) → List Fault
-cellList c [] ts = []
-cellList c (k ∷ ks) [] = []
-cellList c (k ∷ ks) (t ∷ ts) = kindFault (judge (kindOf k) t) c ∷ cellList (c + length t + 1) ks ts
+-- the cells from the one at column c on, by their columns' kinds: 17, 16 or 18 of each
+unfoldable pub cellRules : ℕ → List ℕ → List (List ℕ) → List Fault
+cellRules c [] ts = []
+cellRules c (k ∷ ks) [] = []
+cellRules c (k ∷ ks) (t ∷ ts) = kindFault (judge (kindOf k) t) c ∷ cellRules (c + length t + 1) ks ts
 
-unfoldable pub rowList : List ℕ → List (List ℕ) → List Fault
-rowList ks ts = unless (eqb (length ts) (length ks)) 15 1 ∷ cellList 1 ks ts
+-- a row's cells, by their columns' kinds: 15 comes first
+unfoldable pub rowRules : List ℕ → List (List ℕ) → List Fault
+rowRules ks ts = unless (eqb (length ts) (length ks)) 15 1 ∷ cellRules 1 ks ts
 
--- what binds good cells of a row together, the columns being of these names: nothing in document 01
-unfoldable pub boundList : List (List ℕ) → List (List ℕ) → List Fault
-boundList ns ts = []
+-- what binds the good cells of a row together, the columns being of these names: nothing yet. A rule on several cells of a row has its place here
+unfoldable pub boundRules : List (List ℕ) → List (List ℕ) → List Fault
+boundRules ns ts = []
 
--- a data line after n others
-unfoldable pub dataList : ℕ → List (List ℕ) → List (List ℕ) → List Fault
-dataList n ns ts = unless (ltb n 1000000) 20 1 ∷ rowList (kindsOf ns) ts ++ boundList ns ts
+-- a data line after n others: 20, 15, then cell by cell
+unfoldable pub dataLineRules : ℕ → List (List ℕ) → List (List ℕ) → List Fault
+dataLineRules n ns ts = unless (ltb n 1000000) 20 1 ∷ rowRules (kindsOf ns) ts ++ boundRules ns ts
 
 -- a line that is exactly END_DATA
 abbrev pub isEndData : List ℕ → Bool

@@ -3,24 +3,27 @@ ghost use mathlib.Core.Path.{_≡_};
 ghost use mathlib.Core.Bool.{cond};
 ghost use Prim.Native.Nat.{_+_, _≤_, _<_};
 ghost use mathlib.Core.List.{[]};
-ghost use lib.ListN.{length, getD};
+ghost use lib.ListN.{length};
 ghost use Rattle.text.specs.Cells.{lineAt, pieces};
 ghost use Rattle.text.specs.Names.{beginsCtd};
+ghost use Rattle.text.specs.Kinds.{flag, ctdFlag, codeOf};
 ghost use Rattle.exchange.specs.declared.names.NameFault.the-variants.{Clean};
 ghost use Rattle.exchange.specs.Faults.{hasAll};
-ghost use Rattle.exchange.specs.Columns.{Sort, namesOf, requiredNames};
-ghost use Rattle.exchange.specs.NameWords.{faultIn};
-ghost use Rattle.exchange.specs.ColumnWords.{Ends, Placed, CellsFound, KindsRead, parameterPlace};
-ghost use Rattle.exchange.specs.Walks.{ColumnsRead, sortFor, namesAt};
+ghost use Rattle.exchange.specs.Columns.{namesOf, requiredNames};
+ghost use Rattle.exchange.specs.Inner.Names.{faultIn, namesAt};
+ghost use Rattle.exchange.specs.Inner.Columns.{Ends, Placed, CellsFound, KindsRead, parameterPlace, ColumnsRead};
+ghost use Rattle.exchange.specs.Inner.Top.{sortFor};
+use crate::grid::cell_end;
 use crate::names::NameFault;
 use crate::names::first_fault;
 use crate::names::has_station;
 use crate::names::name_at;
 use crate::names::place_of;
-use crate::places::cell_end;
+use text::kinds;
+use text::refusals;
 
-// The most columns.
-pub const MOST_COLUMNS: usize = 256;
+// The most names, and so columns.
+pub const MOST_NAMES: usize = 256;
 
 // The cells of the names line, 256 at the most; where there is one more, it starts at `over`.
 pub struct Cells {
@@ -48,7 +51,7 @@ pub fn cells_of(s: &[u8], at: usize, e: usize) -> Cells
     let mut ends = [0usize; 256];
     let mut i = at;
     let mut count = 0;
-    while count < 256 {
+    while count < MOST_NAMES {
         let q = cell_end(s, i, e);
         starts[count] = i;
         ends[count] = q;
@@ -89,9 +92,13 @@ fn parameter_place<'a>(
 }
 
 fn flag_kind(parameter: &[u8]) -> u8
-    ensures { λ r. ⌜ r ≡ cond (beginsCtd (now (parameter .entry))) 5 4 ⌝ }
+    ensures { λ r. ⌜ r ≡ cond (beginsCtd (now (parameter .entry))) (codeOf ctdFlag) (codeOf flag) ⌝ }
 {
-    if text::begins_ctd(parameter) { 5 } else { 4 }
+    if text::begins_ctd(parameter) {
+        kinds::CTD_FLAG
+    } else {
+        kinds::FLAG
+    }
 }
 
 fn columns_refused(number: u64, column: u64) -> Columns
@@ -125,7 +132,10 @@ fn kinds_of<'a>(s: &'a [u8], at: usize, starts: &'a [usize], ends: &'a [usize], 
             let parameter = &name[..p];
             let j = parameter_place(s, starts, ends, n, parameter);
             if j == n {
-                return columns_refused(12, ((starts[k] - at) as u64) + 1);
+                return columns_refused(
+                    refusals::FLAG_WITHOUT_PARAMETER,
+                    ((starts[k] - at) as u64) + 1,
+                );
             }
             kinds[k] = flag_kind(parameter);
             flags[j] = (k as u16) + 1;
@@ -165,7 +175,7 @@ fn good_columns(s: &[u8], at: usize, c: Cells, bottle: bool) -> Columns
     ensures { λ r. ⌜ ColumnsRead (sortFor bottle) (lineAt (now (s .entry)) at) r ⌝ }
 {
     if c.over != 0 {
-        return columns_refused(11, ((c.over - at) as u64) + 1);
+        return columns_refused(refusals::TOO_MANY_NAMES, ((c.over - at) as u64) + 1);
     }
     let r = kinds_of(s, at, &c.starts, &c.ends, c.count);
     if r.number != 0 {
@@ -174,7 +184,7 @@ fn good_columns(s: &[u8], at: usize, c: Cells, bottle: bool) -> Columns
     if has_required(s, &c.starts, &c.ends, c.count, bottle) {
         r
     } else {
-        columns_refused(13, 1)
+        columns_refused(refusals::REQUIRED_NAME_ABSENT, 1)
     }
 }
 
@@ -185,8 +195,12 @@ pub fn read_columns(s: &[u8], at: usize, e: usize, bottle: bool) -> Columns
 {
     let c = cells_of(s, at, e);
     match first_fault(s, &c.starts, &c.ends, c.count) {
-        NameFault::Bad(k) => columns_refused(10, ((c.starts[k] - at) as u64) + 1),
-        NameFault::Repeated(k) => columns_refused(9, ((c.starts[k] - at) as u64) + 1),
+        NameFault::Bad(k) => {
+            columns_refused(refusals::BAD_COLUMN_NAME, ((c.starts[k] - at) as u64) + 1)
+        }
+        NameFault::Repeated(k) => {
+            columns_refused(refusals::NAME_REPEATED, ((c.starts[k] - at) as u64) + 1)
+        }
         NameFault::Clean => good_columns(s, at, c, bottle),
     }
 }

@@ -4,14 +4,19 @@ ghost use Prim.Native.Nat.{_+_, _≤_, _<_};
 ghost use lib.ListN.{length, getD};
 ghost use Rattle.text.specs.Cells.{lineAt};
 ghost use Rattle.exchange.specs.Headers.{rawName, headersSaid, headerKind};
-ghost use Rattle.exchange.specs.HeadersWords.{Parted, namedFault, headerFault, HeaderRead, Begun, HeadersPlaced};
-ghost use Rattle.exchange.specs.Walks.{namesAt, HeadersRead};
+ghost use Rattle.exchange.specs.Inner.Headers.{Parted, namedFaultAt, headerFaultAt, HeaderRead, Begun, HeadersPlaced, HeadersRead};
+ghost use Rattle.exchange.specs.Inner.Names.{namesAt};
 use crate::lines::line_at;
 use crate::names::has_station;
 use crate::names::place_of;
+use text::kinds;
+use text::refusals;
 
-// The most header lines, and the most bytes of a header's name.
+// The most header lines.
 pub const MOST_HEADERS: usize = 64;
+
+// The most bytes of a header's name.
+pub const MOST_NAME_BYTES: usize = 64;
 
 // The headers: name k stands from starts[k] to ends[k], its value after the = there to the line's end. The next line starts at `at`.
 pub struct Headers {
@@ -39,7 +44,7 @@ pub fn equals_from(s: &[u8], at: usize, e: usize) -> usize
 {
     let mut i = at;
     while i < e {
-        if s[i] == 61 {
+        if s[i] == b'=' {
             return i;
         }
         i += 1;
@@ -61,7 +66,7 @@ fn header_refused(end: usize, number: u64, column: u64) -> Header
 // The line that starts at `at`: rules 1 to 5, then a good name before an =.
 fn named_line(s: &[u8], at: usize) -> Header
     requires { ⌜ at < length (now s) ⌝ }
-    ensures { λ r. ⌜ HeaderRead (namedFault (now (s .entry)) at) (now (s .entry)) at r ⌝ }
+    ensures { λ r. ⌜ HeaderRead (namedFaultAt (now (s .entry)) at) (now (s .entry)) at r ⌝ }
 {
     let l = line_at(s, at, true);
     if l.number != 0 {
@@ -69,14 +74,14 @@ fn named_line(s: &[u8], at: usize) -> Header
     }
     let q = equals_from(s, at, l.end);
     if q == l.end {
-        return header_refused(l.end, 8, 1);
+        return header_refused(l.end, refusals::BAD_HEADER, 1);
     }
     let name = text::trimmed(s, at, q);
-    if MOST_HEADERS < name.len() {
-        return header_refused(l.end, 8, 1);
+    if MOST_NAME_BYTES < name.len() {
+        return header_refused(l.end, refusals::BAD_HEADER, 1);
     }
     if !text::is_name(name) {
-        return header_refused(l.end, 8, 1);
+        return header_refused(l.end, refusals::BAD_HEADER, 1);
     }
     Header {
         end: l.end,
@@ -94,7 +99,7 @@ fn headers_said(s: &[u8], at: usize, h: Header) -> usize
     if !text::same(text::trimmed(s, at, h.equals), b"NUMBER_HEADERS") {
         return 0;
     }
-    let v = text::whole(s, h.equals + 1, h.end, 10, 2);
+    let v = text::whole(s, h.equals + 1, h.end, b'\n', 2);
     if v.number != 0 {
         return 0;
     }
@@ -109,9 +114,13 @@ fn header_kind(name: &[u8]) -> u8
     ensures { λ r. ⌜ r ≡ headerKind (now (name .entry)) ⌝ }
 {
     let listed = text::catalogue_names();
-    let kinds = text::catalogue_kinds();
-    let kind = text::kind_of(&listed, &kinds, name);
-    if kind == 0 { 11 } else { kind }
+    let of = text::catalogue_kinds();
+    let kind = text::kind_of(&listed, &of, name);
+    if kind == kinds::MEASURED {
+        kinds::FREE
+    } else {
+        kind
+    }
 }
 
 // The rules of a header line after the first: its name is new, and its value of its kind.
@@ -123,7 +132,7 @@ fn header_line<'a>(
     count: usize,
 ) -> Header
     requires { ⌜ (at < length (now s)) × (count ≤ length (now starts)) × (count ≤ length (now ends)) ⌝ }
-    ensures { λ r. ⌜ HeaderRead (headerFault (namesAt (now (s .entry)) count (now (starts .entry)) (now (ends .entry))) (now (s .entry)) at) (now (s .entry)) at r ⌝ }
+    ensures { λ r. ⌜ HeaderRead (headerFaultAt (namesAt (now (s .entry)) count (now (starts .entry)) (now (ends .entry))) (now (s .entry)) at) (now (s .entry)) at r ⌝ }
 {
     let h = named_line(s, at);
     if h.number != 0 {
@@ -131,9 +140,9 @@ fn header_line<'a>(
     }
     let name = text::trimmed(s, at, h.equals);
     if place_of(s, starts, ends, count, name) < count {
-        return header_refused(h.end, 9, 1);
+        return header_refused(h.end, refusals::NAME_REPEATED, 1);
     }
-    let v = text::judge(s, h.equals + 1, h.end, 10, header_kind(name));
+    let v = text::judge(s, h.equals + 1, h.end, b'\n', header_kind(name));
     if v.number != 0 {
         return header_refused(h.end, v.number, ((h.equals - at) as u64) + 2);
     }
@@ -168,7 +177,7 @@ fn more_headers(s: &[u8], start: usize, first: u64, h: Header, said: usize) -> H
     let mut count = 1;
     while count < said {
         if s.len() <= at {
-            return headers_refused(line, 14, 1);
+            return headers_refused(line, refusals::LINE_DUE, 1);
         }
         let g = header_line(s, at, &starts, &ends, count);
         if g.number != 0 {
@@ -191,7 +200,7 @@ fn more_headers(s: &[u8], start: usize, first: u64, h: Header, said: usize) -> H
             ends,
         }
     } else {
-        headers_refused(line - 1, 13, 1)
+        headers_refused(line - 1, refusals::REQUIRED_NAME_ABSENT, 1)
     }
 }
 
@@ -201,7 +210,7 @@ pub fn read_headers(s: &[u8], start: usize, first: u64) -> Headers
     ensures { λ r. ⌜ HeadersRead (now (s .entry)) start first r × HeadersPlaced (now (s .entry)) start first r ⌝ }
 {
     if s.len() <= start {
-        return headers_refused(first, 14, 1);
+        return headers_refused(first, refusals::LINE_DUE, 1);
     }
     let h = named_line(s, start);
     if h.number != 0 {
@@ -209,7 +218,7 @@ pub fn read_headers(s: &[u8], start: usize, first: u64) -> Headers
     }
     let said = headers_said(s, start, h);
     if said == 0 {
-        return headers_refused(first, 8, 1);
+        return headers_refused(first, refusals::BAD_HEADER, 1);
     }
     more_headers(s, start, first, h, said)
 }

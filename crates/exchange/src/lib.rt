@@ -1,4 +1,4 @@
-// A WHP-Exchange file: its lines, places, headers, columns and rows; the check, and the calls that read.
+// A WHP-Exchange file: the check, and the calls that read its cells, decimals, flags and profiles.
 ghost use mathlib.Core.Path.{_≡_};
 ghost use Rattle.text.specs.Spaces.{IsPart};
 ghost use Rattle.exchange.specs.Answers.{checkedOf, cellOf, refusalBy, askedOf, placeFor, readingFor, flaggedOf};
@@ -6,16 +6,18 @@ ghost use Rattle.exchange.specs.Located.{locatedOf};
 ghost use Rattle.exchange.specs.Records.{profileOf, stationedOf, stationPlace, stationRefusal, noPlace, stationAnswer};
 use text::Reading;
 use text::Span;
+use text::kinds;
+use text::refusals;
 
-mod asking;
+mod cells;
 mod columns;
+mod grid;
 mod headers;
 mod lines;
 mod names;
-mod places;
 mod profiles;
 mod rows;
-mod survey;
+mod table;
 mod top;
 mod values;
 
@@ -88,7 +90,7 @@ pub struct Located {
 pub fn check(file: &[u8]) -> Checked
     ensures { λ r. ⌜ r ≡ checkedOf (now (file .entry)) ⌝ }
 {
-    let v = survey::survey_of(file);
+    let v = table::table_of(file);
     if v.number != 0 {
         return Checked {
             number: v.number,
@@ -101,7 +103,7 @@ pub fn check(file: &[u8]) -> Checked
             missing: 0,
         };
     }
-    if v.kind == 1 {
+    if v.kind == top::BOTTLE {
         return Checked {
             number: 0,
             line: 0,
@@ -109,7 +111,7 @@ pub fn check(file: &[u8]) -> Checked
             kind: FileKind::Bottle,
             columns: v.columns as u64,
             rows: v.rows,
-            profiles: v.runs,
+            profiles: v.profiles,
             missing: v.missing,
         };
     }
@@ -129,7 +131,7 @@ pub fn check(file: &[u8]) -> Checked
 pub fn cell_place(file: &[u8], row: u64, column: u64) -> CellPlace
     ensures { λ r. ⌜ r ≡ placeFor (now (file .entry)) row column ⌝ }
 {
-    let a = asking::ask(file, row, column);
+    let a = cells::find_cell(file, row, column);
     if a.number != 0 {
         return CellPlace {
             number: a.number,
@@ -162,7 +164,7 @@ pub fn cell<'a>(file: &'a [u8], row: u64, column: u64, refusal: &mut [u64; 3]) -
 pub fn decimal(file: &[u8], row: u64, column: u64) -> Reading
     ensures { λ r. ⌜ r ≡ readingFor (now (file .entry)) row column ⌝ }
 {
-    let a = asking::ask(file, row, column);
+    let a = cells::find_cell(file, row, column);
     if a.number != 0 {
         return Reading::Refused {
             number: a.number,
@@ -170,14 +172,14 @@ pub fn decimal(file: &[u8], row: u64, column: u64) -> Reading
             column: a.column,
         };
     }
-    text::read_decimal(file, a.start, a.feed, 44, a.kind)
+    text::read_decimal(file, a.start, a.feed, b',', a.kind)
 }
 
 // The flag of a flag column.
 pub fn flag(file: &[u8], row: u64, column: u64) -> Flagged
     ensures { λ r. ⌜ r ≡ flaggedOf (now (file .entry)) row column ⌝ }
 {
-    let a = asking::ask(file, row, column);
+    let a = cells::find_cell(file, row, column);
     if a.number != 0 {
         return Flagged {
             number: a.number,
@@ -186,8 +188,8 @@ pub fn flag(file: &[u8], row: u64, column: u64) -> Flagged
             flag: 0,
         };
     }
-    if (a.kind == 4) | (a.kind == 5) {
-        let j = text::judge(file, a.start, a.feed, 44, a.kind);
+    if (a.kind == kinds::FLAG) | (a.kind == kinds::CTD_FLAG) {
+        let j = text::judge(file, a.start, a.feed, b',', a.kind);
         return Flagged {
             number: 0,
             line: 0,
@@ -196,7 +198,7 @@ pub fn flag(file: &[u8], row: u64, column: u64) -> Flagged
         };
     }
     Flagged {
-        number: 22,
+        number: refusals::COLUMN_OF_OTHER_KIND,
         line: 0,
         column: 0,
         flag: 0,
@@ -207,7 +209,7 @@ pub fn flag(file: &[u8], row: u64, column: u64) -> Flagged
 pub fn locate(file: &[u8], row: u64, column: u64) -> Located
     ensures { λ r. ⌜ r ≡ locatedOf (now (file .entry)) row column ⌝ }
 {
-    let a = asking::ask(file, row, column);
+    let a = cells::find_cell(file, row, column);
     if a.number != 0 {
         return Located {
             number: a.number,
@@ -228,10 +230,10 @@ pub fn locate(file: &[u8], row: u64, column: u64) -> Located
             start: a.start,
             len: a.len,
         },
-        measured: a.kind == 0,
-        ctd: asking::is_ctd(file, a.names, (column - 1) as usize),
+        measured: a.kind == kinds::MEASURED,
+        ctd: cells::is_ctd(file, a.names, (column - 1) as usize),
         flagged: 0 < a.flag,
-        flag: asking::place_in(file, a.at, a.feed, a.flag as usize),
+        flag: cells::place_in(file, a.at, a.feed, a.flag as usize),
     }
 }
 
@@ -262,8 +264,8 @@ pub fn profile(file: &[u8], k: u64) -> ProfileRecord
         time: values::time_in(file, time),
         first: p.first,
         rows: p.rows,
-        castno: values::number_in(file, castno, 8),
-        date: values::number_in(file, date, 9),
+        castno: values::number_in(file, castno, kinds::CASTNO),
+        date: values::number_in(file, date, kinds::DATE),
     }
 }
 
@@ -288,7 +290,7 @@ pub fn station_place<'a>(file: &'a [u8], k: u64, name: &'a [u8]) -> CellPlace
     }
     let v = profiles::station_value(file, p, name);
     if !v.found {
-        return no_place(21, 0, 0);
+        return no_place(refusals::NO_SUCH_PLACE, 0, 0);
     }
     CellPlace {
         number: 0,

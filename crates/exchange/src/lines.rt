@@ -1,17 +1,20 @@
-// The lines of a file: where each ends, and rules 1 to 5.
+// A line of a file: where it ends, and the first of rules 1 to 5 that it breaks.
 ghost use mathlib.Core.Path.{_≡_};
 ghost use mathlib.Core.Bool.{false};
 ghost use Prim.Native.Nat.{_+_, min, _≤_, _<_};
 ghost use lib.ListN.{length};
 ghost use Rattle.text.specs.Inner.Scans.{Scan};
-ghost use Rattle.exchange.specs.LineWords.{isPlain, Plain};
-ghost use Rattle.exchange.specs.Walks.{lineFor, lineOf};
-use crate::places::line_end;
+ghost use Rattle.text.proofs.LineLaws.{isPlain};
+ghost use Rattle.exchange.specs.Inner.Lines.{Plain, lineFor, lineOf};
+use crate::grid::line_end;
 use text::Found;
-ghost use Rattle.exchange.specs.RuleWords.{byteRules};
+use text::refusals;
+ghost use Rattle.exchange.specs.Inner.Faults.{byteFault};
 
-// The most bytes of a line.
+// The most bytes of a line, and the column after them.
 pub const MOST_BYTES: usize = 8192;
+
+pub const COLUMN_PAST: u64 = 8193;
 
 // A line: its line feed at `end`; or the first of rules 1 to 5 that it breaks and the column shown, the number being 0 where it breaks none.
 pub struct Line {
@@ -29,7 +32,7 @@ fn odd_in_32(s: &[u8], i: usize) -> bool
     let mut k = i;
     let mut odd = false;
     while k < end {
-        odd = odd | (s[k] < 32) | (126 < s[k]);
+        odd = odd | (s[k] < b' ') | (b'~' < s[k]);
         k += 1;
     }
     odd
@@ -43,7 +46,7 @@ fn odd_in_8(s: &[u8], i: usize) -> bool
     let mut k = i;
     let mut odd = false;
     while k < end {
-        odd = odd | (s[k] < 32) | (126 < s[k]);
+        odd = odd | (s[k] < b' ') | (b'~' < s[k]);
         k += 1;
     }
     odd
@@ -85,7 +88,7 @@ fn first_odd(s: &[u8], at: usize, limit: usize) -> usize
     let from = past_8(s, past_32(s, at, limit), limit);
     let mut i = from;
     while i < limit {
-        if (s[i] < 32) | (126 < s[i]) {
+        if (s[i] < b' ') | (b'~' < s[i]) {
             return i;
         }
         i += 1;
@@ -107,19 +110,19 @@ fn limit_of(n: usize, at: usize) -> usize
 
 // The first broken rule of 3, 4 and, where it is asked, 5.
 fn byte_rules(line: &[u8], end: usize, control: bool) -> Line
-    ensures { λ r. ⌜ r ≡ lineFor (byteRules control (now (line .entry))) end ⌝ }
+    ensures { λ r. ⌜ r ≡ lineFor (byteFault control (now (line .entry))) end ⌝ }
 {
     if let Found::At(i) = text::ill_formed(line) {
         return Line {
             end: 0,
-            number: 3,
+            number: refusals::ILL_FORMED_UTF8,
             column: (i as u64) + 1,
         };
     }
     if let Found::At(i) = text::first_return(line) {
         return Line {
             end: 0,
-            number: 4,
+            number: refusals::CARRIAGE_RETURN,
             column: (i as u64) + 1,
         };
     }
@@ -127,7 +130,7 @@ fn byte_rules(line: &[u8], end: usize, control: bool) -> Line
         if let Found::At(i) = text::first_control(line) {
             return Line {
                 end: 0,
-                number: 5,
+                number: refusals::CONTROL_BYTE,
                 column: (i as u64) + 1,
             };
         }
@@ -148,14 +151,14 @@ fn odd_line(s: &[u8], at: usize, control: bool) -> Line
     if MOST_BYTES < e - at {
         return Line {
             end: 0,
-            number: 1,
-            column: 8193,
+            number: refusals::LINE_TOO_LONG,
+            column: COLUMN_PAST,
         };
     }
     if s.len() <= e {
         return Line {
             end: 0,
-            number: 2,
+            number: refusals::NO_LINE_FEED,
             column: ((e - at) as u64) + 1,
         };
     }
@@ -170,7 +173,7 @@ pub fn line_at(s: &[u8], at: usize, control: bool) -> Line
     let limit = limit_of(s.len(), at);
     let o = first_odd(s, at, limit);
     if o < limit {
-        if s[o] == 10 {
+        if s[o] == b'\n' {
             return Line {
                 end: o,
                 number: 0,

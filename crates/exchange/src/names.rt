@@ -1,12 +1,11 @@
-// Names by place: name k stands, with its spaces, from starts[k] to ends[k].
+// Names by place: name k stands, with its spaces, from starts[k] to ends[k]. Where one stands, the first bad or repeated one, and the station names.
 ghost use mathlib.Core.Path.{_≡_};
 ghost use Prim.Native.Nat.{_≤_, _<_};
 ghost use mathlib.Core.List.{[]};
 ghost use lib.ListN.{length, getD};
 ghost use Rattle.exchange.specs.Faults.{hasAll, placeIn};
 ghost use Rattle.exchange.specs.Headers.{stationNames};
-ghost use Rattle.exchange.specs.NameWords.{faultIn};
-ghost use Rattle.exchange.specs.Walks.{textIn, namesAt};
+ghost use Rattle.exchange.specs.Inner.Names.{faultIn, textIn, namesAt};
 
 // The first fault of a list of names.
 pub enum NameFault {

@@ -2,20 +2,23 @@
 ghost use mathlib.Core.Path.{_≡_};
 ghost use Prim.Native.Nat.{_≤_, _<_};
 ghost use lib.ListN.{length};
-ghost use Rattle.exchange.specs.SurveyWords.{SurveyRead};
-ghost use Rattle.exchange.specs.ProfileWords.{RowLines, withNoted, RunRead};
-ghost use Rattle.exchange.specs.ValueWords.{RunFound, ValuesStand, StationRead, ProfileRead};
-use crate::places::line_end;
-use crate::places::line_start;
+ghost use Rattle.exchange.specs.Inner.Table.{FileRead};
+ghost use Rattle.exchange.specs.Inner.Profiles.{RowLines, withNoted, RunRead};
+ghost use Rattle.exchange.specs.Inner.Values.{RunFound, ValuesStand, StationRead, ProfileRead};
+use crate::grid::line_end;
+use crate::grid::line_start;
 use crate::rows::no_keys;
 use crate::rows::one;
 use crate::rows::read_row;
 use crate::rows::same_keys;
-use crate::survey::Survey;
-use crate::survey::survey_of;
+use crate::table::FileTable;
+use crate::table::table_of;
+use crate::top::BOTTLE;
+use crate::top::NEITHER;
 use crate::values::ValueAt;
 use crate::values::column_value;
 use crate::values::header_value;
+use text::refusals;
 
 // The rows of a profile: the first row, and how many there are; none where there is no such profile.
 pub struct Run {
@@ -68,11 +71,11 @@ pub fn run_of<'a>(s: &'a [u8], start: usize, n: u64, kinds: &'a [u8], k: u64) ->
 }
 
 // The rows of profile k of a file that is checked: a CTD file is one profile.
-fn run_in(s: &[u8], v: Survey, k: u64) -> Run
-    requires { ⌜ SurveyRead (now s) v × (v .number ≡ 0) ⌝ }
+fn run_in(s: &[u8], v: FileTable, k: u64) -> Run
+    requires { ⌜ FileRead (now s) v × (v .number ≡ 0) ⌝ }
     ensures { λ r. ⌜ RunFound (now (s .entry)) v k r ⌝ }
 {
-    if v.kind == 1 {
+    if v.kind == BOTTLE {
         let n = v.columns;
         let kinds = v.kinds;
         return run_of(s, v.data, v.rows, &kinds[..n], k);
@@ -106,7 +109,7 @@ fn no_profile(number: u64, line: u64, column: u64) -> ProfileAt
         number,
         line,
         column,
-        kind: 0,
+        kind: NEITHER,
         headers: 0,
         names: 0,
         at: 0,
@@ -119,13 +122,13 @@ fn no_profile(number: u64, line: u64, column: u64) -> ProfileAt
 pub fn profile_at(s: &[u8], k: u64) -> ProfileAt
     ensures { λ r. ⌜ ProfileRead (now (s .entry)) k r ⌝ }
 {
-    let v = survey_of(s);
+    let v = table_of(s);
     if v.number != 0 {
         return no_profile(v.number, v.line, v.column);
     }
     let r = run_in(s, v, k);
     if r.rows == 0 {
-        return no_profile(21, 0, 0);
+        return no_profile(refusals::NO_SUCH_PLACE, 0, 0);
     }
     ProfileAt {
         number: 0,
@@ -145,7 +148,7 @@ pub fn station_value<'a>(s: &'a [u8], p: ProfileAt, name: &'a [u8]) -> ValueAt
     requires { ⌜ ValuesStand (now s) p ⌝ }
     ensures { λ r. ⌜ StationRead (now (s .entry)) p (now (name .entry)) r ⌝ }
 {
-    if p.kind == 1 {
+    if p.kind == BOTTLE {
         column_value(s, p.names, p.at, name)
     } else {
         header_value(s, p.headers, p.names, name)

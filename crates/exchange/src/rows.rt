@@ -9,12 +9,12 @@ ghost use Rattle.text.specs.Rows.{noKeys};
 ghost use Rattle.text.specs.Inner.Scans.{Stop};
 ghost use Rattle.exchange.specs.Rows.{isEndData};
 ghost use Rattle.exchange.specs.Profiles.{sameKey};
-ghost use Rattle.exchange.specs.Walks.{DataRead};
-ghost use Rattle.exchange.specs.RowsWords.{spanText, keyAt, KeysWithin, cellsOf, rowRefused, RowRead, dataRefused, withRow, DataHeld, LineRead};
+ghost use Rattle.exchange.specs.Inner.Rows.{spanText, keyAt, KeysWithin, lineCells, rowRefused, RowRead, dataRefused, withRow, DataHeld, LineRead, DataRead};
+use crate::grid::cells_between;
 use crate::lines::line_at;
-use crate::places::cells_between;
 use text::Keys;
 use text::Span;
+use text::refusals;
 
 // The most data lines.
 pub const MOST_ROWS: u64 = 1000000;
@@ -57,12 +57,12 @@ pub fn one(b: bool) -> u64
 // The refusal of a row at a cell, `rest` cells being due from it on: 15 comes before the cell's.
 fn refused_at(s: &[u8], start: usize, at: usize, e: usize, rest: usize, number: u64) -> Row
     requires { ⌜ Stop 44 (now s) at e ⌝ }
-    ensures { λ r. ⌜ r ≡ cond (eqb (length (cellsOf (now (s .entry)) at)) rest) (rowRefused at number) (rowRefused start 15) ⌝ }
+    ensures { λ r. ⌜ r ≡ cond (eqb (length (lineCells (now (s .entry)) at)) rest) (rowRefused at number) (rowRefused start 15) ⌝ }
 {
     if cells_between(s, at, e) == rest {
         row_refused(at, number)
     } else {
-        row_refused(start, 15)
+        row_refused(start, refusals::WRONG_NUMBER_OF_CELLS)
     }
 }
 
@@ -71,13 +71,13 @@ pub fn read_row<'a>(s: &'a [u8], start: usize, e: usize, kinds: &'a [u8]) -> Row
     requires { ⌜ Stop 44 (now s) start e × (0 < length (now kinds)) × (length (now kinds) ≤ 256) ⌝ }
     ensures { λ r. ⌜ RowRead (now (s .entry)) (now (kinds .entry)) start r ⌝ }
 {
-    let r = text::judge_cells(s, start, e, 44, kinds);
+    let r = text::judge_cells(s, start, e, b',', kinds);
     if r.number != 0 {
         return refused_at(s, start, r.start, e, kinds.len() - r.good, r.number);
     }
     let q = r.at;
-    if (r.good != kinds.len()) | (s[q] != 10) {
-        return row_refused(start, 15);
+    if (r.good != kinds.len()) | (s[q] != b'\n') {
+        return row_refused(start, refusals::WRONG_NUMBER_OF_CELLS);
     }
     let keys = r.keys;
     Row {
@@ -173,7 +173,7 @@ fn data_line<'a>(s: &'a [u8], d: Data, kinds: &'a [u8]) -> Data
     let e = l.end;
     if is_end_data(&s[at..e]) {
         if d.rows == 0 {
-            return data_refused(d, 19, 1);
+            return data_refused(d, refusals::NO_DATA_LINE, 1);
         }
         let mut r = d;
         r.at = e + 1;
@@ -181,7 +181,7 @@ fn data_line<'a>(s: &'a [u8], d: Data, kinds: &'a [u8]) -> Data
         return r;
     }
     if d.rows == MOST_ROWS {
-        return data_refused(d, 20, 1);
+        return data_refused(d, refusals::TOO_MANY_DATA_LINES, 1);
     }
     let r = read_row(s, at, e, kinds);
     if r.number != 0 {
@@ -211,5 +211,5 @@ pub fn read_data<'a>(s: &'a [u8], start: usize, kinds: &'a [u8]) -> Data
             return d;
         }
     }
-    data_refused(d, 14, 1)
+    data_refused(d, refusals::LINE_DUE, 1)
 }

@@ -1,13 +1,14 @@
 // The value of a name, by place: of a header, or of a column in a row.
 ghost use mathlib.Core.Path.{_≡_};
 ghost use mathlib.Core.Bool.{false};
-ghost use Rattle.exchange.specs.ValueWords.{ValueRead, NumberRead, TimeRead, HeadersStand, HeaderFound, ColumnsStand, valueIn};
+ghost use Rattle.exchange.specs.Inner.Values.{ValueRead, NumberRead, TimeRead, HeadersStand, HeaderFound, ColumnsStand, valueIn};
 use crate::CastTime;
 use crate::columns::cells_of;
+use crate::grid::cell_span;
+use crate::grid::line_end;
 use crate::headers::equals_from;
 use crate::names::place_of;
-use crate::places::cell_span;
-use crate::places::line_end;
+use text::kinds;
 
 // Where a value stands, with its spaces: a cell parted by the separator, in a line whose line feed stands at `feed`. Not found: there is none of that name.
 pub struct ValueAt {
@@ -42,7 +43,7 @@ pub fn header_value<'a>(s: &'a [u8], first: usize, names: usize, name: &'a [u8])
         if text::same(text::trimmed(s, at, q), name) {
             return ValueAt {
                 found: true,
-                separator: 10,
+                separator: b'\n',
                 start: q + 1,
                 len: e - (q + 1),
                 feed: e,
@@ -69,7 +70,7 @@ pub fn column_value<'a>(s: &'a [u8], names: usize, at: usize, name: &'a [u8]) ->
     let p = cell_span(s, at, e, k);
     ValueAt {
         found: true,
-        separator: 44,
+        separator: b',',
         start: p.start,
         len: p.len,
         feed: e,
@@ -94,7 +95,7 @@ pub fn time_in(s: &[u8], v: ValueAt) -> CastTime
     if !v.found {
         return CastTime::Missing;
     }
-    let j = text::judge(s, v.start, v.feed, v.separator, 10);
+    let j = text::judge(s, v.start, v.feed, v.separator, kinds::TIME);
     if (j.number != 0) | j.minus {
         return CastTime::Missing;
     }

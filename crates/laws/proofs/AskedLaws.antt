@@ -22,15 +22,15 @@ use Rattle.text.proofs.KindLaws.{set-parts}
 use Rattle.exchange.specs.declared.Flagged.{Flagged}
 use Rattle.exchange.specs.Faults.{Fault, clean, breaks, _then_, unless, kindFault, firstOf}
 use Rattle.exchange.specs.Columns.{kindOfName, kindsOf}
-use Rattle.exchange.specs.Rows.{cellList, rowList}
+use Rattle.exchange.specs.Rows.{cellRules, rowRules}
 use Rattle.exchange.specs.Places.{Table, accepted, outcomeOf}
-use Rattle.exchange.specs.RuleWords.{cellFaults, rowRules}
+use Rattle.exchange.specs.Inner.Faults.{cellFault, rowFault}
 use Rattle.exchange.specs.Profiles.{grid}
 use Rattle.exchange.specs.Answers.{found, missed, askedBy, askedOf, kindAt, rowsIn, rowCells, cellText, cellBy, cellOf, refusalBy, readingBy, readingFor, flaggedBy, flaggedOf}
 use Rattle.laws.specs.Promises.{IsThere, columnKind, cellVerdict, millionthsOf, IsFlag, Refuses, GivesFlag, Answers, AskedExactly}
 use Rattle.exchange.proofs.AcceptLaws.{rows-kept}
 use Rattle.exchange.proofs.GridLaws.{getD-mapped, cells-many}
-use Rattle.exchange.proofs.AskLaws.{outside, inside-by, asked-inside, asked-outside}
+use Rattle.exchange.proofs.CellLaws.{outside, inside-by, asked-inside, asked-outside}
 
 -- ---- the cells of an accepted file are good
 pub record Good (v : Verdict) : Type 0 where
@@ -45,17 +45,17 @@ fault-good wrong c g e = let z : _≡_ {A = ℕ} 0 1 = cc in absurd (omega arith
 fault-good outOfRange c g e = let z : _≡_ {A = ℕ} 0 1 = cc in absurd (omega arith)
 fault-good (good m v d) c g e = (record { minus = m; size = v; decimals = d; is = refl }, e)
 
-cells-good : (c : ℕ) (ks : List ℕ) (ts : List (List ℕ)) → cellFaults c ks ts ≡ clean → (k : ℕ) → k < length ks → k < length ts → Good (judge (kindOf (getD ks k 0)) (getD ts k []))
-unfolding cellFaults cellList firstOf
+cells-good : (c : ℕ) (ks : List ℕ) (ts : List (List ℕ)) → cellFault c ks ts ≡ clean → (k : ℕ) → k < length ks → k < length ts → Good (judge (kindOf (getD ks k 0)) (getD ts k []))
+unfolding cellFault cellRules firstOf
 cells-good c [] ts e k h l = absurd (not-suc-le-zero h)
 cells-good c (x ∷ ks) [] e k h l = absurd (not-suc-le-zero l)
-cells-good c (x ∷ ks) (t ∷ ts) e zero h l = fault-good (judge (kindOf x) t) c (cellFaults (c + length t + 1) ks ts) e .0
+cells-good c (x ∷ ks) (t ∷ ts) e zero h l = fault-good (judge (kindOf x) t) c (cellFault (c + length t + 1) ks ts) e .0
 cells-good c (x ∷ ks) (t ∷ ts) e (suc k) h l =
-    cells-good (c + length t + 1) ks ts (fault-good (judge (kindOf x) t) c (cellFaults (c + length t + 1) ks ts) e .1) k (le-of-suc-le-suc h) (le-of-suc-le-suc l)
+    cells-good (c + length t + 1) ks ts (fault-good (judge (kindOf x) t) c (cellFault (c + length t + 1) ks ts) e .1) k (le-of-suc-le-suc h) (le-of-suc-le-suc l)
 
-rules-cells : (ks : List ℕ) (ts : List (List ℕ)) → rowRules ks ts ≡ clean → cellFaults 1 ks ts ≡ clean
-unfolding rowRules cellFaults rowList firstOf
-rules-cells ks ts e = go (eqb (length ts) (length ks)) (cellFaults 1 ks ts) e
+rules-cells : (ks : List ℕ) (ts : List (List ℕ)) → rowFault ks ts ≡ clean → cellFault 1 ks ts ≡ clean
+unfolding rowFault cellFault rowRules firstOf
+rules-cells ks ts e = go (eqb (length ts) (length ks)) (cellFault 1 ks ts) e
   where
     go : (z : Bool) (g : Fault) → (unless z 15 1 then g) ≡ clean → g ≡ clean
     go true clean e = refl
@@ -80,12 +80,12 @@ module _ (f : List ℕ) (t : Table) (n : ℕ) (e : outcomeOf f ≡ accepted t n)
       getD-take n (drop (t .line) (grid f)) j [] h ∙ getD-drop (t .line) (grid f) j [] ∙ ap (λ (k : ℕ). getD (grid f) k []) w
 
   -- row r, from 1, keeps the rules of a row
-  pub row-rules : (r : ℕ) → 1 ≤ r → r ≤ n → rowRules (kindsOf (t .names)) (rowCells t f r) ≡ clean
+  pub row-rules : (r : ℕ) → 1 ≤ r → r ≤ n → rowFault (kindsOf (t .names)) (rowCells t f r) ≡ clean
   row-rules r a b =
       let k = rows-kept f t n e (r - 1) (omega arith) in
       let in-file : t .line + (r - 1) < length (pieces 10 f) = omega (arith, k .line, length-drop (t .line) (pieces 10 f)) in
       rw (getD-mapped (pieces 10 f) (t .line + (r - 1)) in-file)
-      (subst (λ (x : List ℕ). rowRules (kindsOf (t .names)) (pieces 44 x) ≡ clean) (getD-drop (t .line) (pieces 10 f) (r - 1) []) (k .cells))
+      (subst (λ (x : List ℕ). rowFault (kindsOf (t .names)) (pieces 44 x) ≡ clean) (getD-drop (t .line) (pieces 10 f) (r - 1) []) (k .cells))
 
   -- and has as many cells as there are columns
   pub row-many : (r : ℕ) → 1 ≤ r → r ≤ n → length (rowCells t f r) ≡ length (kindsOf (t .names))

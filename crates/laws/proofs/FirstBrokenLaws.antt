@@ -10,11 +10,11 @@ use lib.Dec.{leb, ltb}
 use borrow.Author.Tests.{lt-ltb, le-ltb, ltb-true, ltb-false}
 use Rattle.text.specs.Cells.{pieces}
 use Rattle.exchange.specs.Faults.{Fault, clean, breaks, _then_, firstOf, unless}
-use Rattle.exchange.specs.LineRules.{cutList}
+use Rattle.exchange.specs.LineRules.{unendedRules}
 use Rattle.exchange.specs.Headers.{Header, headerOf, headersSaid}
 use Rattle.exchange.specs.Columns.{Sort, bottle, ctd}
 use Rattle.exchange.specs.Rows.{isEndData}
-use Rattle.exchange.specs.Places.{Table, Place, first, comments, headers, names, units, rows, after, stopped, isComment, rulesAt, endList, endRules, dueHeaders, afterTop, nextPlace, stopAt, Outcome, accepted, refused, outcomeAt, last, run, outcomeOf}
+use Rattle.exchange.specs.Places.{Table, Place, first, comments, headers, names, units, rows, after, stopped, isComment, rulesAt, lastPieceRules, endRules, dueHeaders, afterTop, nextPlace, stopAt, Outcome, accepted, refused, outcomeAt, last, run, outcomeOf}
 use Rattle.exchange.specs.declared.FileKind.the-variants.{Unknown}
 use Rattle.exchange.specs.declared.Checked.{Checked}
 use Rattle.exchange.specs.Answers.{kindBy, checkedBy, checkedOf}
@@ -107,7 +107,7 @@ module _ (l : ℕ) (p : Place) (x : List ℕ) where
   last-stops n c e = record { at = 0; line = sym (add-zero l); inside = omega arith; earlier = λ j h. absurd (omega arith); here = e }
 
 ran-end : (l : ℕ) (p : Place) → Going p → Ran l p ([] ∷ []) (last l p [])
-unfolding endRules endList rulesFrom firstOf walk
+unfolding endRules lastPieceRules rulesFrom firstOf walk
 ran-end l first g = last-stops l first [] 14 1 refl
 ran-end l (comments s) g = last-stops l (comments s) [] 14 1 refl
 ran-end l (headers due hs) g = last-stops l (headers due hs) [] 14 1 refl
@@ -122,10 +122,10 @@ ran-end l (after t n) g = record { kept = λ j h. one j h; place = refl }
 ran-end l (stopped a b c) g = absurd g
 
 ran-cut : (l : ℕ) (p : Place) (x : ℕ) (xs : List ℕ) → Going p → Ran l p ((x ∷ xs) ∷ []) (last l p (x ∷ xs))
-unfolding cutList firstOf
+unfolding unendedRules firstOf
 ran-cut l p x xs g = subst (λ (rs : List Fault). Ran l p ((x ∷ xs) ∷ []) (outcomeAt (stopAt l (firstOf rs) p))) (sym e) (go (leb (length (x ∷ xs)) 8192) refl)
   where
-    e : endRules p (x ∷ xs) ≡ cutList (x ∷ xs)
+    e : endRules p (x ∷ xs) ≡ unendedRules (x ∷ xs)
     e = cut-rules p x xs g
 
     go : (b : Bool) → leb (length (x ∷ xs)) 8192 ≡ b → Ran l p ((x ∷ xs) ∷ []) (outcomeAt (stopAt l (unless b 1 8193 then breaks 2 (length (x ∷ xs) + 1)) p))

@@ -1,7 +1,7 @@
 -- The rules of a line, taken cell by cell: rules 3, 4 and 5 hold of bytes, a comma and more bytes exactly if they hold of both.
 --   well-cut, return-cut, control-cut : nowhere (rule (a ++ 44 ∷ b)) ≡ (nowhere (rule a) && nowhere (rule b))
 --   join-kept : for such a rule, a cell that keeps it may stand in the place of another
---   line-kept : length u ≡ length (getD ts i []) → every isPlain u ≡ true → lineRules true (join 44 ts) ≡ clean → lineRules true (join 44 (set ts i u)) ≡ clean
+--   line-kept : length u ≡ length (getD ts i []) → every isPlain u ≡ true → lineFault true (join 44 ts) ≡ clean → lineFault true (join 44 (set ts i u)) ≡ clean
 use Prim.Native.Nat.{ℕ, zero, suc, pred, _+_, _≤_, _<_}
 use mathlib.Core.Path.{_≡_, refl, sym, ap, _∙_}
 use mathlib.Core.Bool.{Bool, true, false, cond, _&&_, true≢false, and-eq-true-iff}
@@ -16,8 +16,8 @@ use Rattle.text.specs.Lines.{Range, within, takes, alternatives, characterIn, c
 use Rattle.text.proofs.CharacterLaws.{character-ascii}
 use Rattle.text.proofs.LineLaws.{isPlain, plain-well-formed, plain-no-return, plain-no-control}
 use Rattle.exchange.specs.Faults.{clean, _then_, firstOf}
-use Rattle.exchange.specs.LineRules.{foundFault, tooLong, lineList, byteList}
-use Rattle.exchange.specs.RuleWords.{lineRules}
+use Rattle.exchange.specs.LineRules.{foundFault, lineTooLong, lineRules, byteRules}
+use Rattle.exchange.specs.Inner.Faults.{lineFault}
 use Rattle.laws.specs.Writes.{join, joinLater}
 use Rattle.exchange.proofs.HeaderLaws.{then-clean}
 use Rattle.laws.proofs.JoinLaws.{join-length-set}
@@ -147,11 +147,11 @@ clean-found n (At i) e = absurd (true≢false (sym e))
 clean-found n Nowhere e = refl
 
 pub line-kept : (ts : List (List ℕ)) (i : ℕ) (u : List ℕ) → i < length ts → length u ≡ length (getD ts i []) → every isPlain u ≡ true
-    → lineRules true (join 44 ts) ≡ clean → lineRules true (join 44 (set ts i u)) ≡ clean
-unfolding lineRules lineList byteList firstOf
+    → lineFault true (join 44 ts) ≡ clean → lineFault true (join 44 (set ts i u)) ≡ clean
+unfolding lineFault lineRules byteRules firstOf
 line-kept ts i u h e p c =
     let l = join 44 ts in
-    let w = then-clean (tooLong l) (foundFault 3 (illFormed l) then foundFault 4 (returnAt l) then foundFault 5 (controlAt l) then clean) c in
+    let w = then-clean (lineTooLong l) (foundFault 3 (illFormed l) then foundFault 4 (returnAt l) then foundFault 5 (controlAt l) then clean) c in
     let v = then-clean (foundFault 3 (illFormed l)) (foundFault 4 (returnAt l) then foundFault 5 (controlAt l) then clean) (w .1) in
     let k = then-clean (foundFault 4 (returnAt l)) (foundFault 5 (controlAt l) then clean) (v .1) in
     let j = then-clean (foundFault 5 (controlAt l)) clean (k .1) in

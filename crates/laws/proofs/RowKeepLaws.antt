@@ -1,5 +1,5 @@
 -- In an accepted file any line that keeps the rules of a row may stand in the place of a data line. No header rule is looked at.
---   row-replaced : outcomeOf f ≡ accepted t n → r < n → Free 10 x → lineRules true x ≡ clean → isEndData x ≡ false → rowRules (kindsOf (t .names)) (pieces 44 x) ≡ clean
+--   row-replaced : outcomeOf f ≡ accepted t n → r < n → Free 10 x → lineFault true x ≡ clean → isEndData x ≡ false → rowFault (kindsOf (t .names)) (pieces 44 x) ≡ clean
 --       → outcomeOf (join 10 (set (pieces 10 f) (t .line + r) x)) ≡ accepted t n
 --   lines-replaced : Free 10 x → pieces 10 (join 10 (set (pieces 10 f) k x)) ≡ set (pieces 10 f) k x
 use Prim.Native.Nat.{ℕ, zero, suc, _+_, _-_, _<_}
@@ -14,8 +14,8 @@ use Rattle.exchange.specs.Faults.{clean, firstOf, unless}
 use Rattle.exchange.specs.Columns.{kindsOf}
 use Rattle.exchange.specs.Rows.{isEndData}
 use Rattle.laws.specs.Writes.{join}
-use Rattle.exchange.specs.Places.{Table, Place, first, rows, endList, endRules, step, accepted, run, outcomeOf}
-use Rattle.exchange.specs.RuleWords.{lineRules, rowRules, boundFault}
+use Rattle.exchange.specs.Places.{Table, Place, first, rows, lastPieceRules, endRules, step, accepted, run, outcomeOf}
+use Rattle.exchange.specs.Inner.Faults.{lineFault, rowFault, boundFault}
 use Rattle.exchange.proofs.RuleLaws.{row-step}
 use Rattle.exchange.proofs.AcceptLaws.{accepted-not-refused, cut-refused, after-accepted, end-passed, row-passed, rows-accepted, Early, Next, early, table, next-step, early-ends, rows-reached}
 use Rattle.laws.proofs.JoinLaws.{Free, first-free, later-free, pieces-join}
@@ -31,14 +31,14 @@ unfolding run
 run-set l p y z zs zero x = refl
 run-set l p y z zs (suc k) x = refl
 
-module _ (t : Table) (x : List ℕ) (bytes : lineRules true x ≡ clean) (more : isEndData x ≡ false) (cells : rowRules (kindsOf (t .names)) (pieces 44 x) ≡ clean)
+module _ (t : Table) (x : List ℕ) (bytes : lineFault true x ≡ clean) (more : isEndData x ≡ false) (cells : rowFault (kindsOf (t .names)) (pieces 44 x) ≡ clean)
     (bound : boundFault (t .names) (pieces 44 x) ≡ clean) where
   row-set : (l m : ℕ) → unless (ltb m 1000000) 20 1 ≡ clean → step l (rows t m) x ≡ rows t (m + 1)
   row-set l m e = row-step l t m x more ∙ rw (bytes, e, cells, bound)
 
   -- in the place of data line r of those that follow
   later-row : (ps : List (List ℕ)) (l m : ℕ) (u : Table) (n r : ℕ) → run l (rows t m) ps ≡ accepted u n → r < n - m → run l (rows t m) (set ps r x) ≡ accepted u n
-  unfolding run endRules endList firstOf
+  unfolding run endRules lastPieceRules firstOf
   later-row [] l m u n r e h = absurd (accepted-not-refused e)
   later-row ([] ∷ []) l m u n r e h = absurd (accepted-not-refused e)
   later-row ((y ∷ ys) ∷ []) l m u n r e h = absurd (cut-refused l (rows t m) y ys u n e)
@@ -62,7 +62,7 @@ module _ (t : Table) (x : List ℕ) (bytes : lineRules true x ≡ clean) (more :
       by false q ih = goes-on r h q ih
 
 -- the same from a line before the data
-early-row : (ps : List (List ℕ)) (l : ℕ) (p : Place) (t : Table) (n r : ℕ) (x : List ℕ) → lineRules true x ≡ clean → isEndData x ≡ false → rowRules (kindsOf (t .names)) (pieces 44 x) ≡ clean → boundFault (t .names) (pieces 44 x) ≡ clean
+early-row : (ps : List (List ℕ)) (l : ℕ) (p : Place) (t : Table) (n r : ℕ) (x : List ℕ) → lineFault true x ≡ clean → isEndData x ≡ false → rowFault (kindsOf (t .names)) (pieces 44 x) ≡ clean → boundFault (t .names) (pieces 44 x) ≡ clean
     → Early p → run l p ps ≡ accepted t n → r < n → run l p (set ps (t .line + 1 - l + r) x) ≡ accepted t n
 unfolding run
 early-row [] l p t n r x a b c d0 h e k = absurd (early-ends l p t n h e)
@@ -83,12 +83,12 @@ early-row (y ∷ (z ∷ zs)) l p t n r x a b c d0 h e k = by (step l p y) refl (
     by q s (table u d) e ih =
         let w = rows-accepted (z ∷ zs) (l + 1) u 0 t n e in
         let d' : t .line ≡ l = subst (λ (v : Table). v .line ≡ l) (w .table) d in
-        let c' : rowRules (kindsOf (u .names)) (pieces 44 x) ≡ clean = subst (λ (v : Table). rowRules (kindsOf (v .names)) (pieces 44 x) ≡ clean) (sym (w .table)) c in
+        let c' : rowFault (kindsOf (u .names)) (pieces 44 x) ≡ clean = subst (λ (v : Table). rowFault (kindsOf (v .names)) (pieces 44 x) ≡ clean) (sym (w .table)) c in
         let b' : boundFault (u .names) (pieces 44 x) ≡ clean = subst (λ (v : Table). boundFault (v .names) (pieces 44 x) ≡ clean) (sym (w .table)) d0 in
         at (rows u 0) r (t .line + 1 - l + r) s (omega (arith, d')) (later-row u x a b c' b' (z ∷ zs) (l + 1) 0 t n r e (omega (arith, k)))
 
-pub row-replaced : (f : List ℕ) (t : Table) (n r : ℕ) (x : List ℕ) → outcomeOf f ≡ accepted t n → r < n → Free 10 x → lineRules true x ≡ clean → isEndData x ≡ false
-    → rowRules (kindsOf (t .names)) (pieces 44 x) ≡ clean → boundFault (t .names) (pieces 44 x) ≡ clean → outcomeOf (join 10 (set (pieces 10 f) (t .line + r) x)) ≡ accepted t n
+pub row-replaced : (f : List ℕ) (t : Table) (n r : ℕ) (x : List ℕ) → outcomeOf f ≡ accepted t n → r < n → Free 10 x → lineFault true x ≡ clean → isEndData x ≡ false
+    → rowFault (kindsOf (t .names)) (pieces 44 x) ≡ clean → boundFault (t .names) (pieces 44 x) ≡ clean → outcomeOf (join 10 (set (pieces 10 f) (t .line + r) x)) ≡ accepted t n
 unfolding outcomeOf
 row-replaced f t n r x e k h a b c d =
     let i : t .line + r ≡ t .line + 1 - 1 + r = omega arith in

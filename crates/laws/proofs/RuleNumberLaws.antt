@@ -17,11 +17,11 @@ use Rattle.text.specs.Judge.{judge}
 use Rattle.text.specs.Lines.{illFormed, returnAt, controlAt}
 use Rattle.text.proofs.CellLaws.{both-true}
 use Rattle.exchange.specs.Faults.{Fault, clean, breaks, _then_, firstOf, unless, kindFault, member, hasAll}
-use Rattle.exchange.specs.LineRules.{foundFault, tooLong, byteList, lineList, cutList}
-use Rattle.exchange.specs.Headers.{Header, rawName, nameOf, valueOf, headerOf, namesIn, nameRule, headersSaid, firstHeaderList, headerKind, headerList, stationNames, lastHeader}
-use Rattle.exchange.specs.Columns.{Sort, bottle, ctd, nameList, isFlag, hasParameter, flagList, requiredNames, namesOf, namesList, kindsOf}
-use Rattle.exchange.specs.Rows.{cellList, rowList, boundList, dataList, isEndData}
-use Rattle.exchange.specs.Places.{Place, first, comments, headers, names, units, rows, after, stopped, isMark, isBottle, isCtd, firstList, isComment, topList, rulesAt, endList, endRules}
+use Rattle.exchange.specs.LineRules.{foundFault, lineTooLong, byteRules, lineRules, unendedRules}
+use Rattle.exchange.specs.Headers.{Header, rawName, nameOf, valueOf, headerOf, namesIn, headerNameRule, headersSaid, firstHeaderRules, headerKind, headerRules, stationNames, lastHeaderRules}
+use Rattle.exchange.specs.Columns.{Sort, bottle, ctd, nameRules, isFlag, hasParameter, flagRules, requiredNames, namesOf, namesLineRules, kindsOf}
+use Rattle.exchange.specs.Rows.{cellRules, rowRules, boundRules, dataLineRules, isEndData}
+use Rattle.exchange.specs.Places.{Place, first, comments, headers, names, units, rows, after, stopped, isMark, isBottle, isCtd, firstLineRules, isComment, topRules, rulesAt, lastPieceRules, endRules}
 use Rattle.laws.specs.RuleOrder.{linesIn, placeBefore, lineIn, rulesOf}
 
 -- a number of the table, by a test that computes
@@ -77,10 +77,10 @@ either-numbered true xs ys h g = h
 either-numbered false xs ys h g = g
 
 -- ---- the lists of the places
-line-numbered : (control : Bool) (x : List ℕ) → FirstNumbered (lineList control x)
-unfolding firstOf lineList byteList
+line-numbered : (control : Bool) (x : List ℕ) → FirstNumbered (lineRules control x)
+unfolding firstOf lineRules byteRules
 line-numbered control x =
-    number-then (tooLong x) _ (number-unless (leb (length x) 8192) 1 8193 refl)
+    number-then (lineTooLong x) _ (number-unless (leb (length x) 8192) 1 8193 refl)
     (number-then (foundFault 3 (illFormed x)) _ (number-found 3 (illFormed x) refl)
     (number-then (foundFault 4 (returnAt x)) _ (number-found 4 (returnAt x) refl)
     (number-then (cond control (foundFault 5 (controlAt x)) clean) clean (go control) tt)))
@@ -98,82 +98,82 @@ one-numbered b n c h = unless-numbered b n c [] h none-numbered
 kind-numbered : (v : Verdict) (c : ℕ) (rs : List Fault) → FirstNumbered rs → FirstNumbered (kindFault v c ∷ rs)
 kind-numbered v c rs g = first-numbered (kindFault v c) rs (number-kind v c) g
 
-name-numbered : (c : ℕ) (earlier ts : List (List ℕ)) → FirstNumbered (nameList c earlier ts)
-unfolding nameList
+name-numbered : (c : ℕ) (earlier ts : List (List ℕ)) → FirstNumbered (nameRules c earlier ts)
+unfolding nameRules
 name-numbered c earlier [] = none-numbered
 name-numbered c earlier (t ∷ ts) =
     unless-numbered (ltb (length earlier) 256) 11 c _ refl
     (unless-numbered (isName (trim t)) 10 c _ refl
     (unless-numbered (not (member (trim t) earlier)) 9 c _ refl (name-numbered (c + length t + 1) (earlier ++ trim t ∷ []) ts)))
 
-flag-numbered : (c : ℕ) (ns ts : List (List ℕ)) → FirstNumbered (flagList c ns ts)
-unfolding flagList
+flag-numbered : (c : ℕ) (ns ts : List (List ℕ)) → FirstNumbered (flagRules c ns ts)
+unfolding flagRules
 flag-numbered c ns [] = none-numbered
 flag-numbered c ns (t ∷ ts) = unless-numbered (not (isFlag (trim t)) || hasParameter ns (trim t)) 12 c _ refl (flag-numbered (c + length t + 1) ns ts)
 
-names-numbered : (k : Sort) (x : List ℕ) → FirstNumbered (namesList k x)
-unfolding namesList
+names-numbered : (k : Sort) (x : List ℕ) → FirstNumbered (namesLineRules k x)
+unfolding namesLineRules
 names-numbered k x =
-    let a = nameList 1 [] (pieces 44 x) in
-    let b = flagList 1 (namesOf x) (pieces 44 x) in
+    let a = nameRules 1 [] (pieces 44 x) in
+    let b = flagRules 1 (namesOf x) (pieces 44 x) in
     append-numbered (a ++ b) _ (append-numbered a b (name-numbered 1 [] (pieces 44 x)) (flag-numbered 1 (namesOf x) (pieces 44 x)))
     (one-numbered (hasAll (requiredNames k) (namesOf x)) 13 1 refl)
 
-cell-numbered : (c : ℕ) (ks : List ℕ) (ts : List (List ℕ)) → FirstNumbered (cellList c ks ts)
-unfolding cellList
+cell-numbered : (c : ℕ) (ks : List ℕ) (ts : List (List ℕ)) → FirstNumbered (cellRules c ks ts)
+unfolding cellRules
 cell-numbered c [] ts = none-numbered
 cell-numbered c (k ∷ ks) [] = none-numbered
 cell-numbered c (k ∷ ks) (t ∷ ts) = kind-numbered (judge (kindOf k) t) c _ (cell-numbered (c + length t + 1) ks ts)
 
-data-numbered : (n : ℕ) (ns ts : List (List ℕ)) → FirstNumbered (dataList n ns ts)
-unfolding dataList rowList boundList
+data-numbered : (n : ℕ) (ns ts : List (List ℕ)) → FirstNumbered (dataLineRules n ns ts)
+unfolding dataLineRules rowRules boundRules
 data-numbered n ns ts =
-    append-numbered (unless (ltb n 1000000) 20 1 ∷ unless (eqb (length ts) (length (kindsOf ns))) 15 1 ∷ cellList 1 (kindsOf ns) ts) []
+    append-numbered (unless (ltb n 1000000) 20 1 ∷ unless (eqb (length ts) (length (kindsOf ns))) 15 1 ∷ cellRules 1 (kindsOf ns) ts) []
     (unless-numbered (ltb n 1000000) 20 1 _ refl (unless-numbered (eqb (length ts) (length (kindsOf ns))) 15 1 _ refl (cell-numbered 1 (kindsOf ns) ts)))
     none-numbered
 
-last-numbered : (due : ℕ) (hs : List Header) → FirstNumbered (lastHeader due hs)
-unfolding lastHeader
+last-numbered : (due : ℕ) (hs : List Header) → FirstNumbered (lastHeaderRules due hs)
+unfolding lastHeaderRules
 last-numbered zero hs = one-numbered (hasAll stationNames (namesIn hs)) 13 1 refl
 last-numbered (suc due) hs = none-numbered
 
-header-name : (x : List ℕ) (rs : List Fault) → FirstNumbered rs → FirstNumbered (nameRule x ∷ rs)
-unfolding nameRule
+header-name : (x : List ℕ) (rs : List Fault) → FirstNumbered rs → FirstNumbered (headerNameRule x ∷ rs)
+unfolding headerNameRule
 header-name x rs g = unless-numbered (ltb (length (rawName x)) (length x) && leb (length (nameOf x)) 64 && isName (nameOf x)) 8 1 rs refl g
 
-top-numbered : (k : Sort) (x : List ℕ) → FirstNumbered (topList k x)
-unfolding firstHeaderList
+top-numbered : (k : Sort) (x : List ℕ) → FirstNumbered (topRules k x)
+unfolding firstHeaderRules
 top-numbered bottle x = names-numbered bottle x
 top-numbered ctd x =
-    append-numbered (nameRule x ∷ unless (ltb 0 (headersSaid x)) 8 1 ∷ []) _ (header-name x _ (one-numbered (ltb 0 (headersSaid x)) 8 1 refl))
+    append-numbered (headerNameRule x ∷ unless (ltb 0 (headersSaid x)) 8 1 ∷ []) _ (header-name x _ (one-numbered (ltb 0 (headersSaid x)) 8 1 refl))
     (last-numbered (headersSaid x - 1) (headerOf x ∷ []))
 
-header-numbered : (earlier : List (List ℕ)) (x : List ℕ) → FirstNumbered (headerList earlier x)
-unfolding headerList
+header-numbered : (earlier : List (List ℕ)) (x : List ℕ) → FirstNumbered (headerRules earlier x)
+unfolding headerRules
 header-numbered earlier x =
     header-name x _ (unless-numbered (not (member (nameOf x) earlier)) 9 1 _ refl
     (kind-numbered (judge (kindOf (headerKind (nameOf x))) (valueOf x)) (length (rawName x) + 2) [] none-numbered))
 
 -- ---- a line at its place, and the file's end
-own-numbered : (x : List ℕ) (rs : List Fault) → FirstNumbered rs → FirstNumbered (lineList true x ++ rs)
-own-numbered x rs g = append-numbered (lineList true x) rs (line-numbered true x) g
+own-numbered : (x : List ℕ) (rs : List Fault) → FirstNumbered rs → FirstNumbered (lineRules true x ++ rs)
+own-numbered x rs g = append-numbered (lineRules true x) rs (line-numbered true x) g
 
 rules-numbered : (p : Place) (x : List ℕ) → FirstNumbered (rulesAt p x)
-unfolding rulesAt firstList
+unfolding rulesAt firstLineRules
 rules-numbered first x = own-numbered x _ (unless-numbered (not (isMark x)) 6 1 _ refl (one-numbered (isBottle x || isCtd x) 7 1 refl))
-rules-numbered (comments k) x = either-numbered (isComment x) (lineList false x) (lineList true x ++ topList k x) (line-numbered false x) (own-numbered x (topList k x) (top-numbered k x))
+rules-numbered (comments k) x = either-numbered (isComment x) (lineRules false x) (lineRules true x ++ topRules k x) (line-numbered false x) (own-numbered x (topRules k x) (top-numbered k x))
 rules-numbered (headers due hs) x =
-    own-numbered x _ (append-numbered (headerList (namesIn hs) x) _ (header-numbered (namesIn hs) x) (last-numbered (due - 1) (hs ++ headerOf x ∷ [])))
-rules-numbered (names k hs) x = own-numbered x (namesList k x) (names-numbered k x)
+    own-numbered x _ (append-numbered (headerRules (namesIn hs) x) _ (header-numbered (namesIn hs) x) (last-numbered (due - 1) (hs ++ headerOf x ∷ [])))
+rules-numbered (names k hs) x = own-numbered x (namesLineRules k x) (names-numbered k x)
 rules-numbered (units k hs ns) x = own-numbered x _ (one-numbered (eqb (length (pieces 44 x)) (length ns)) 15 1 refl)
 rules-numbered (rows t n) x =
-    own-numbered x _ (either-numbered (isEndData x) (unless (not (eqb n 0)) 19 1 ∷ []) (dataList n (t .names) (pieces 44 x))
+    own-numbered x _ (either-numbered (isEndData x) (unless (not (eqb n 0)) 19 1 ∷ []) (dataLineRules n (t .names) (pieces 44 x))
     (one-numbered (not (eqb n 0)) 19 1 refl) (data-numbered n (t .names) (pieces 44 x)))
 rules-numbered (after t n) x = line-numbered false x
 rules-numbered (stopped a b c) x = none-numbered
 
-last-line-numbered : (due : Bool) (x : List ℕ) → FirstNumbered (endList due x)
-unfolding endList cutList
+last-line-numbered : (due : Bool) (x : List ℕ) → FirstNumbered (lastPieceRules due x)
+unfolding lastPieceRules unendedRules
 last-line-numbered due [] = one-numbered (not due) 14 1 refl
 last-line-numbered due (x ∷ xs) = unless-numbered (leb (length (x ∷ xs)) 8192) 1 8193 _ refl (first-numbered (breaks 2 (length (x ∷ xs) + 1)) [] refl none-numbered)
 

@@ -1,6 +1,6 @@
 -- Texts written into cells of a row that keeps its rules: with texts that fit their columns it keeps them, and an accepted file stays accepted.
---   rules-kept : isGood (judge (kindOf (getD ks i 0)) u) ≡ true → rowRules ks ts ≡ clean → rowRules ks (set ts i u) ≡ clean
---   measured-goes-on : c < length ks → getD ks c 0 ≡ 0 → rowRules ks (pieces 44 x) ≡ clean → isEndData x ≡ false
+--   rules-kept : isGood (judge (kindOf (getD ks i 0)) u) ≡ true → rowFault ks ts ≡ clean → rowFault ks (set ts i u) ≡ clean
+--   measured-goes-on : c < length ks → getD ks c 0 ≡ 0 → rowFault ks (pieces 44 x) ≡ clean → isEndData x ≡ false
 --   writes-widths : All (Fits ks (map length ts)) ws → map length (written ts ws) ≡ map length ts
 --   writes-kept : All (Fits ks (map length ts)) ws → RowHolds ks ts → RowHolds ks (written ts ws)
 --   row-holds : outcomeOf f ≡ accepted t n → r < n → RowHolds (kindsOf (t .names)) (getD (grid f) (t .line + r) [])
@@ -28,11 +28,11 @@ use Rattle.text.proofs.EveryLaws.{every-cons}
 use Rattle.text.proofs.LineLaws.{isPlain}
 use Rattle.exchange.specs.Faults.{clean, breaks, _then_, unless, kindFault, firstOf}
 use Rattle.exchange.specs.Columns.{kindsOf}
-use Rattle.exchange.specs.Rows.{isEndData, cellList, rowList}
+use Rattle.exchange.specs.Rows.{isEndData, cellRules, rowRules}
 use Rattle.laws.specs.Writes.{join, ungrid, Write, written}
 use Rattle.exchange.specs.Profiles.{grid}
 use Rattle.exchange.specs.Places.{Table, accepted, outcomeOf}
-use Rattle.exchange.specs.RuleWords.{lineRules, cellFaults, rowRules, boundFault}
+use Rattle.exchange.specs.Inner.Faults.{lineFault, cellFault, rowFault, boundFault}
 use Rattle.exchange.proofs.HeaderLaws.{then-clean}
 use Rattle.exchange.proofs.RowLaws.{fault-good}
 use Rattle.exchange.proofs.GridLaws.{getD-mapped, cells-many}
@@ -49,55 +49,55 @@ fault-moved wrong c d e = let z : _≡_ {A = ℕ} 0 1 = cc in absurd (omega arit
 fault-moved outOfRange c d e = let z : _≡_ {A = ℕ} 0 1 = cc in absurd (omega arith)
 fault-moved (good m v n) c d e = refl
 
-faults-moved : (ks : List ℕ) (ts : List (List ℕ)) (c d : ℕ) → cellFaults c ks ts ≡ clean → cellFaults d ks ts ≡ clean
-unfolding cellFaults cellList firstOf
+faults-moved : (ks : List ℕ) (ts : List (List ℕ)) (c d : ℕ) → cellFault c ks ts ≡ clean → cellFault d ks ts ≡ clean
+unfolding cellFault cellRules firstOf
 faults-moved [] ts c d e = refl
 faults-moved (k ∷ ks) [] c d e = refl
 faults-moved (k ∷ ks) (t ∷ ts) c d e =
-    let w = then-clean (kindFault (judge (kindOf k) t) c) (cellFaults (c + length t + 1) ks ts) e in
+    let w = then-clean (kindFault (judge (kindOf k) t) c) (cellFault (c + length t + 1) ks ts) e in
     rw (fault-moved (judge (kindOf k) t) c d (w .0)) (faults-moved ks ts (c + length t + 1) (d + length t + 1) (w .1))
 
-faults-kept : (ks : List ℕ) (ts : List (List ℕ)) (i : ℕ) (u : List ℕ) (c d : ℕ) → isGood (judge (kindOf (getD ks i 0)) u) ≡ true → cellFaults c ks ts ≡ clean → cellFaults d ks (set ts i u) ≡ clean
-unfolding cellFaults cellList firstOf
+faults-kept : (ks : List ℕ) (ts : List (List ℕ)) (i : ℕ) (u : List ℕ) (c d : ℕ) → isGood (judge (kindOf (getD ks i 0)) u) ≡ true → cellFault c ks ts ≡ clean → cellFault d ks (set ts i u) ≡ clean
+unfolding cellFault cellRules firstOf
 faults-kept [] ts i u c d g e = refl
 faults-kept (k ∷ ks) [] i u c d g e = refl
 faults-kept (k ∷ ks) (t ∷ ts) zero u c d g e =
-    let w = then-clean (kindFault (judge (kindOf k) t) c) (cellFaults (c + length t + 1) ks ts) e in
+    let w = then-clean (kindFault (judge (kindOf k) t) c) (cellFault (c + length t + 1) ks ts) e in
     rw (fault-good (judge (kindOf k) u) d g) (faults-moved ks ts (c + length t + 1) (d + length u + 1) (w .1))
 faults-kept (k ∷ ks) (t ∷ ts) (suc i) u c d g e =
-    let w = then-clean (kindFault (judge (kindOf k) t) c) (cellFaults (c + length t + 1) ks ts) e in
+    let w = then-clean (kindFault (judge (kindOf k) t) c) (cellFault (c + length t + 1) ks ts) e in
     rw (fault-moved (judge (kindOf k) t) c d (w .0)) (faults-kept ks ts i u (c + length t + 1) (d + length t + 1) g (w .1))
 
-pub rules-kept : (ks : List ℕ) (ts : List (List ℕ)) (i : ℕ) (u : List ℕ) → isGood (judge (kindOf (getD ks i 0)) u) ≡ true → rowRules ks ts ≡ clean → rowRules ks (set ts i u) ≡ clean
-unfolding rowRules cellFaults rowList firstOf
+pub rules-kept : (ks : List ℕ) (ts : List (List ℕ)) (i : ℕ) (u : List ℕ) → isGood (judge (kindOf (getD ks i 0)) u) ≡ true → rowFault ks ts ≡ clean → rowFault ks (set ts i u) ≡ clean
+unfolding rowFault cellFault rowRules firstOf
 rules-kept ks ts i u g e =
-    let w = then-clean (unless (eqb (length ts) (length ks)) 15 1) (cellFaults 1 ks ts) e in
+    let w = then-clean (unless (eqb (length ts) (length ks)) 15 1) (cellFault 1 ks ts) e in
     rw (length-set ts i u, w .0, faults-kept ks ts i u 1 1 g (w .1))
 
 -- ---- a row with a measured column is not the line END_DATA, whose one cell is no decimal
-end-no-row : (ks : List ℕ) (c : ℕ) → c < length ks → getD ks c 0 ≡ 0 → rowRules ks (bytes "END_DATA" ∷ []) ≡ clean → ⊥
-unfolding rowRules cellFaults rowList firstOf cellList every trimFront keep trimEnd trim front fraction unsignedOf decimalOf kindOf ofKind judge
+end-no-row : (ks : List ℕ) (c : ℕ) → c < length ks → getD ks c 0 ≡ 0 → rowFault ks (bytes "END_DATA" ∷ []) ≡ clean → ⊥
+unfolding rowFault cellFault rowRules firstOf cellRules every trimFront keep trimEnd trim front fraction unsignedOf decimalOf kindOf ofKind judge
 end-no-row [] c h k e = absurd (omega arith)
 end-no-row (x ∷ []) zero h k e =
-    let f : breaks 16 1 ≡ clean = subst (λ (y : ℕ). rowRules (y ∷ []) (bytes "END_DATA" ∷ []) ≡ clean) k e in
+    let f : breaks 16 1 ≡ clean = subst (λ (y : ℕ). rowFault (y ∷ []) (bytes "END_DATA" ∷ []) ≡ clean) k e in
     let z : _≡_ {A = ℕ} 0 1 = cc f in
     omega arith
 end-no-row (x ∷ []) (suc c) h k e = omega arith
 end-no-row (x ∷ (y ∷ ks)) c h k e = omega (arith, cells-many (x ∷ (y ∷ ks)) (bytes "END_DATA" ∷ []) e)
 
-pub measured-goes-on : (ks : List ℕ) (x : List ℕ) (c : ℕ) → c < length ks → getD ks c 0 ≡ 0 → rowRules ks (pieces 44 x) ≡ clean → isEndData x ≡ false
+pub measured-goes-on : (ks : List ℕ) (x : List ℕ) (c : ℕ) → c < length ks → getD ks c 0 ≡ 0 → rowFault ks (pieces 44 x) ≡ clean → isEndData x ≡ false
 unfolding firstPiece laterPieces
 measured-goes-on ks x c h k e = go (isEndData x) refl
   where
     go : (b : Bool) → isEndData x ≡ b → b ≡ false
-    go true q = absurd (end-no-row ks c h k (subst (λ (y : List ℕ). rowRules ks (pieces 44 y) ≡ clean) (equal-same x (bytes "END_DATA") q) e))
+    go true q = absurd (end-no-row ks c h k (subst (λ (y : List ℕ). rowFault ks (pieces 44 y) ≡ clean) (equal-same x (bytes "END_DATA") q) e))
     go false q = refl
 
 -- ---- a row that keeps its rules
 pub record RowHolds (ks : List ℕ) (ts : List (List ℕ)) : Type 0 where
   pub texts : CleanRow ts
-  pub line : lineRules true (join 44 ts) ≡ clean
-  pub cells : rowRules ks ts ≡ clean
+  pub line : lineFault true (join 44 ts) ≡ clean
+  pub cells : rowFault ks ts ≡ clean
 
 -- a text that may be written into a row of columns of these kinds and cells of these widths: as long as the cell it replaces, plain bytes, no comma, good by its column's kind
 pub record Fits (ks widths : List ℕ) (w : Write) : Type 0 where
@@ -175,7 +175,7 @@ module _ (f : List ℕ) (t : Table) (n r : ℕ) (e : outcomeOf f ≡ accepted t 
 
   pub file-written : (c : ℕ) → c < length (kindsOf (t .names)) → getD (kindsOf (t .names)) c 0 ≡ 0 → boundFault (t .names) row ≡ clean → outcomeOf (ungrid (gridWritten f (t .line + r) ws)) ≡ accepted t n
   file-written c l m b =
-      let rules : rowRules (kindsOf (t .names)) (pieces 44 (join 44 row)) ≡ clean = rw (cells-row row (row-still .texts)) (row-still .cells) in
+      let rules : rowFault (kindsOf (t .names)) (pieces 44 (join 44 row)) ≡ clean = rw (cells-row row (row-still .texts)) (row-still .cells) in
       let bound : boundFault (t .names) (pieces 44 (join 44 row)) ≡ clean = rw (cells-row row (row-still .texts)) b in
       ap outcomeOf (ungrid-set f (t .line + r) row)
       ∙ row-replaced f t n r (join 44 row) e h (row-free row (row-still .texts)) (row-still .line) (measured-goes-on (kindsOf (t .names)) (join 44 row) c l m rules) rules bound

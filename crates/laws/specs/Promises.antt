@@ -13,12 +13,13 @@ use Rattle.text.specs.Verdicts.{Verdict, blank, wrong, outOfRange, good, signed
 use Rattle.text.specs.Kinds.{Kind, measured, latitude, longitude, depth, flag, ctdFlag, kindOf}
 use Rattle.text.specs.Judge.{judge}
 use Rattle.text.specs.Reading.{doubleOf, readNumber, isDecimal}
+use Rattle.exchange.specs.Grid.{nowhere}
 use Rattle.exchange.specs.Faults.{Fault, clean, breaks}
 use Rattle.exchange.specs.Columns.{bottle, ctd, kindsOf}
 use Rattle.exchange.specs.Places.{Table, after, Outcome, accepted, refused, outcomeOf}
 use Rattle.exchange.specs.Profiles.{Key, keyOf}
 use Rattle.exchange.specs.Answers.{checkedBy, checkedOf, askedOf, kindAt, rowCells, cellText, cellPlace, trimmedPlace, cellOf, refusalBy, readingFor, flaggedOf}
-use Rattle.exchange.specs.Located.{isMeasured, nowhere}
+use Rattle.exchange.specs.Located.{isMeasured}
 use Rattle.exchange.specs.Records.{noProfile, profileOf}
 use Rattle.laws.specs.RuleOrder.{linesIn, placeBefore, rulesOf}
 

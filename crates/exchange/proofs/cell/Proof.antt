@@ -4,7 +4,7 @@ use mathlib.Core.Path.{refl, ap}
 use native.Mathlib.Nat.{add-comm, add-sub-cancel-left}
 use native.Mathlib.Omega.{arith}
 use lib.ListN.{take, drop}
-use Rattle.exchange.proofs.AskLaws.{place-is, place-refusal, place-fits}
+use Rattle.exchange.proofs.CellLaws.{place-is, place-refusal, place-fits}
 use borrow.Author.Needs.{needs}
 use Rattle.exchange.proofs.cell.Statement.{statement}
 use Rattle.exchange.proofs.cell.Tie as tie

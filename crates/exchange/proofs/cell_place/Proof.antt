@@ -1,25 +1,25 @@
 -- The refusal, or the trimmed place of the cell that was asked for.
 use native.Mathlib.Omega.{arith}
-use Rattle.exchange.proofs.AskLaws.{call-place, read-place}
+use Rattle.exchange.proofs.CellLaws.{call-place, read-place}
 use borrow.Author.Needs.{needs}
 use Rattle.exchange.proofs.cell_place.Statement.{statement}
 use Rattle.exchange.proofs.cell_place.Tie as tie
 
-ask-requires : tie.Need-ask-requires
-ask-requires c κs = search needs
+find-cell-requires : tie.Need-find-cell-requires
+find-cell-requires c κs = search needs
 
 returns : tie.Need-returns
-returns c = let a = c .before .before in call-place _ _ _ (a .ask .result) (a .ask .ensures) (c .if1 .taken)
+returns c = let a = c .before .before in call-place _ _ _ (a .find-cell .result) (a .find-cell .ensures) (c .if1 .taken)
 
 add-trim-span : tie.Need-add-trim-span
-add-trim-span c = let a = c .before .before .before in omega (arith, a .ask .ensures .on (c .before .if1 .left) .1 .room)
+add-trim-span c = let a = c .before .before .before in omega (arith, a .find-cell .ensures .on (c .before .if1 .left) .1 .room)
 
 trim-span-requires : tie.Need-trim-span-requires
 trim-span-requires c κs = search needs
 
 returns-2 : tie.Need-returns-2
-returns-2 c = let a = c .before .before .before .before in read-place _ _ _ (a .ask .result) (a .ask .ensures) (c .before .before .if1 .left) _ (c .trim-span .ensures)
+returns-2 c = let a = c .before .before .before .before in read-place _ _ _ (a .find-cell .result) (a .find-cell .ensures) (c .before .before .if1 .left) _ (c .trim-span .ensures)
 
 pub cell-place-spec : {M : Type 1} → statement M
 cell-place-spec =
-    tie.close (tie.spec ask-requires returns add-trim-span trim-span-requires returns-2)
+    tie.close (tie.spec find-cell-requires returns add-trim-span trim-span-requires returns-2)

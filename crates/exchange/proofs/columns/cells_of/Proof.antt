@@ -3,7 +3,7 @@ use Prim.Native.Nat.{_-_, _≤_}
 use mathlib.Core.Path.{_≡_, refl}
 use native.Mathlib.Omega.{arith}
 use borrow.Author.Needs.{needs}
-use Rattle.exchange.proofs.CellsLaws.{ends-stop, Walked, walked-none, walked-more, cell-within, placed-more, walked-last, walked-on}
+use Rattle.exchange.proofs.NamesLineLaws.{ends-stop, Walked, walked-none, walked-more, cell-within, placed-more, walked-last, walked-on}
 use Rattle.exchange.proofs.columns.cells_of.Statement.{statement}
 use Rattle.exchange.proofs.columns.cells_of.Tie as tie
 

@@ -4,8 +4,8 @@ use native.Mathlib.Omega.{arith}
 use borrow.Author.Needs.{needs}
 use mathlib.Core.Bool.{false}
 use Rattle.text.specs.Cells.{pieces, lineAt}
-use Rattle.exchange.specs.Walks.{sortFor}
-use Rattle.exchange.proofs.CellsLaws.{start-after, start-column}
+use Rattle.exchange.specs.Inner.Top.{sortFor}
+use Rattle.exchange.proofs.NamesLineLaws.{start-after, start-column}
 use Rattle.exchange.proofs.ColumnLaws.{names-refused, rules-names, rules-required, many-found, none-found, names-required, names-clean, flags-clean, names-flagged, names-read}
 use Rattle.exchange.proofs.columns.good_columns.Statement.{statement}
 use Rattle.exchange.proofs.columns.good_columns.Tie as tie

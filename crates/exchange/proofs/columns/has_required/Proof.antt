@@ -1,6 +1,6 @@
 -- The station names, or CTDPRS.
 use borrow.Author.Needs.{needs}
-use Rattle.exchange.specs.Walks.{namesAt}
+use Rattle.exchange.specs.Inner.Names.{namesAt}
 use Rattle.exchange.proofs.NameLaws.{names-length}
 use Rattle.exchange.proofs.ColumnLaws.{required-bottle, required-ctd, pressure-found}
 use Rattle.exchange.proofs.columns.has_required.Statement.{statement}

@@ -8,7 +8,7 @@ use lib.ListN.{length, set, length-map}
 use lib.Seq.{length-take-le}
 use Rattle.text.specs.Cells.{pieces, lineAt}
 use Rattle.text.specs.Spaces.{trim}
-use Rattle.exchange.proofs.CellsLaws.{start-after, start-column}
+use Rattle.exchange.proofs.NamesLineLaws.{start-after, start-column}
 use Rattle.exchange.proofs.ColumnLaws.{Kinded, zeros-get, kinded-none, parameter-length, turn-plain, turn-within, turn-alone, turn-flag, kinds-refused, kinds-done, flags-done, faults-done}
 use Rattle.exchange.proofs.columns.kinds_of.Statement.{statement}
 use Rattle.exchange.proofs.columns.kinds_of.Tie as tie

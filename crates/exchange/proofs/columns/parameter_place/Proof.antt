@@ -1,7 +1,7 @@
 -- A flag column is no parameter.
 use native.Mathlib.Omega.{arith}
 use borrow.Author.Needs.{needs}
-use Rattle.exchange.specs.Walks.{namesAt}
+use Rattle.exchange.specs.Inner.Names.{namesAt}
 use Rattle.exchange.proofs.NameLaws.{names-length}
 use Rattle.exchange.proofs.ColumnLaws.{parameter-flag, parameter-plain}
 use Rattle.exchange.proofs.columns.parameter_place.Statement.{statement}

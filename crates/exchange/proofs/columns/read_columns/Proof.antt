@@ -3,8 +3,8 @@ use mathlib.Core.Path.{sym, _∙_}
 use native.Mathlib.Omega.{arith}
 use borrow.Author.Needs.{needs}
 use Rattle.text.specs.Cells.{pieces, lineAt}
-use Rattle.exchange.specs.Walks.{sortFor}
-use Rattle.exchange.proofs.CellsLaws.{start-after, start-column}
+use Rattle.exchange.specs.Inner.Top.{sortFor}
+use Rattle.exchange.proofs.NamesLineLaws.{start-after, start-column}
 use Rattle.exchange.proofs.ColumnLaws.{names-refused, rules-names, bad-within, repeated-within, bad-found, repeated-found}
 use Rattle.exchange.proofs.columns.read_columns.Statement.{statement}
 use Rattle.exchange.proofs.columns.read_columns.Tie as tie

@@ -1,8 +1,9 @@
 use mathlib.Core.Path.{ap, _∙_}
 use native.Mathlib.Omega.{arith}
 use Rattle.exchange.specs.Headers.{headerKind}
-use Rattle.exchange.specs.Walks.{namesAt}
-use Rattle.exchange.proofs.HeaderLaws.{names-length, header-named, name-is, header-known, header-value, header-good}
+use Rattle.exchange.specs.Inner.Names.{namesAt}
+use Rattle.exchange.proofs.NameLaws.{names-length}
+use Rattle.exchange.proofs.HeaderLaws.{header-named, name-is, header-known, header-value, header-good}
 use borrow.Author.Needs.{needs}
 use Rattle.exchange.proofs.headers.header_line.Statement.{statement}
 use Rattle.exchange.proofs.headers.header_line.Tie as tie

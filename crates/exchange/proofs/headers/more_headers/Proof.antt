@@ -6,8 +6,8 @@ use lib.ListN.{length, replicate, length-set}
 use borrow.Author.Needs.{needs}
 use Rattle.exchange.specs.Columns.{ctd}
 use Rattle.exchange.specs.Places.{comments, run}
-use Rattle.exchange.specs.Walks.{linesFrom, StartsAt, headersAt}
-use Rattle.exchange.specs.HeadersWords.{HeaderLines}
+use Rattle.exchange.specs.Inner.Lines.{linesFrom, StartsAt}
+use Rattle.exchange.specs.Inner.Headers.{HeaderLines, headersAt}
 use Rattle.exchange.proofs.HeaderRunLaws.{left, first-on, left-ended, left-refused, left-on, left-named, left-lacking, header-counted, headers-refused}
 use Rattle.exchange.proofs.HeaderLineLaws.{headers-none, headers-start, headers-count, headers-placed}
 use Rattle.exchange.proofs.headers.more_headers.Statement.{statement}

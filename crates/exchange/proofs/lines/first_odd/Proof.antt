@@ -2,8 +2,8 @@ use Prim.Native.Nat.{_-_, _≤_}
 use native.Mathlib.Omega.{arith}
 use borrow.Author.Needs.{needs}
 use Rattle.text.specs.Inner.Scans.{Scan}
-use Rattle.exchange.specs.LineWords.{isPlain}
-use Rattle.exchange.proofs.LinePassLaws.{scan-join}
+use Rattle.text.proofs.LineLaws.{isPlain}
+use Rattle.exchange.proofs.LinePassLaws.{scan-join, plain-next}
 use Rattle.exchange.proofs.lines.first_odd.Statement.{statement}
 use Rattle.exchange.proofs.lines.first_odd.Tie as tie
 
@@ -41,7 +41,7 @@ loop-less : tie.Need-loop-less Inv-loop μ-loop
 loop-less c = search needs
 
 loop-again : tie.Need-loop-again Inv-loop μ-loop
-loop-again c = let a = c .before .before .before .before in (omega arith, omega arith, Scan.more (a .loop .inv .2) (omega arith) (rw (c .if1 .left)))
+loop-again c = let a = c .before .before .before .before in (omega arith, omega arith, plain-next (a .loop .inv .2) (omega arith) (c .if1 .left))
 
 returns-2 : tie.Need-returns-2 Inv-loop μ-loop
 returns-2 c = let a = c .before in record { low = a .loop .inv .0; high = a .loop .inv .1; over = a .loop .inv .2 }

@@ -9,7 +9,7 @@ use mathlib.Core.Bool.{false}
 use borrow.Author.Tests.{not-true, not-false}
 use Rattle.exchange.specs.declared.names.NameFault.the-variants.{Clean}
 use Rattle.exchange.specs.Faults.{member}
-use Rattle.exchange.specs.Walks.{namesAt}
+use Rattle.exchange.specs.Inner.Names.{namesAt}
 use Rattle.exchange.proofs.NameLaws.{names-length, name-given, name-equal, name-good, member-none, member-more, member-at, faultFrom, fault-end, fault-bad, fault-repeated, fault-step}
 use Rattle.exchange.proofs.names.first_fault.Statement.{statement}
 use Rattle.exchange.proofs.names.first_fault.Tie as tie

@@ -1,6 +1,6 @@
 -- Each place found below n is a name that is there.
 use borrow.Author.Needs.{needs}
-use Rattle.exchange.specs.Walks.{namesAt}
+use Rattle.exchange.specs.Inner.Names.{namesAt}
 use Rattle.exchange.proofs.NameLaws.{names-length, station-all}
 use Rattle.exchange.proofs.names.has_station.Statement.{statement}
 use Rattle.exchange.proofs.names.has_station.Tie as tie

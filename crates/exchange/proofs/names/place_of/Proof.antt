@@ -5,7 +5,7 @@ use native.Mathlib.Omega.{arith}
 use borrow.Author.Needs.{needs}
 use lib.ListN.{drop}
 use Rattle.exchange.specs.Faults.{placeIn}
-use Rattle.exchange.specs.Walks.{namesAt}
+use Rattle.exchange.specs.Inner.Names.{namesAt}
 use Rattle.exchange.proofs.NameLaws.{names-length, name-equal, place-end, place-stop, place-step}
 use Rattle.exchange.proofs.names.place_of.Statement.{statement}
 use Rattle.exchange.proofs.names.place_of.Tie as tie

@@ -3,8 +3,8 @@ use borrow.Author.Needs.{needs}
 use Rattle.exchange.proofs.profiles.profile_at.Statement.{statement}
 use Rattle.exchange.proofs.profiles.profile_at.Tie as tie
 
-survey-of-requires : tie.Need-survey-of-requires
-survey-of-requires c κs = search needs
+table-of-requires : tie.Need-table-of-requires
+table-of-requires c κs = search needs
 
 no-profile-requires : tie.Need-no-profile-requires
 no-profile-requires c κs = search needs
@@ -12,7 +12,7 @@ no-profile-requires c κs = search needs
 returns : tie.Need-returns
 returns c =
     let v = c .before .before .before in
-    profile-refused _ _ _ _ (v .survey-of .ensures) (c .before .if1 .taken) (c .no-profile .ensures)
+    profile-refused _ _ _ _ (v .table-of .ensures) (c .before .if1 .taken) (c .no-profile .ensures)
 
 run-in-requires : tie.Need-run-in-requires
 run-in-requires c κs = search needs
@@ -24,7 +24,7 @@ returns-2 : tie.Need-returns-2
 returns-2 c =
     let r = c .before .before .before in
     let v = r .before .before .before in
-    profile-none _ _ _ (v .survey-of .ensures) (r .before .if1 .left) _ (r .run-in .ensures) _ (c .before .if2 .taken) (c .no-profile2 .ensures)
+    profile-none _ _ _ (v .table-of .ensures) (r .before .if1 .left) _ (r .run-in .ensures) _ (c .before .if2 .taken) (c .no-profile2 .ensures)
 
 sub-line-start : tie.Need-sub-line-start
 sub-line-start c = c .before .before .before .run-in .ensures .low (c .before .if2 .left)
@@ -33,19 +33,19 @@ line-start-requires : tie.Need-line-start-requires
 line-start-requires c κs =
     let r = c .before .before .before in
     let v = r .before .before .before in
-    v .survey-of .ensures .on (r .before .if1 .left) .2 .inside
+    v .table-of .ensures .on (r .before .if1 .left) .2 .inside
 
 returns-3 : tie.Need-returns-3
 returns-3 c =
     let r = c .before .before .before .before in
     let v = r .before .before .before in
-    profile-found _ _ _ (v .survey-of .ensures) (r .before .if1 .left) _ (r .run-in .ensures) (c .before .before .if2 .left) _ (c .line-start .ensures)
+    profile-found _ _ _ (v .table-of .ensures) (r .before .if1 .left) _ (r .run-in .ensures) (c .before .before .if2 .left) _ (c .line-start .ensures)
 
 pub profile-at-spec : {M : Type 1} → statement M
 profile-at-spec =
     tie.close
     (tie.spec
-    survey-of-requires
+    table-of-requires
     no-profile-requires
     returns
     run-in-requires

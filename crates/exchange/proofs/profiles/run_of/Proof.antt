@@ -10,7 +10,7 @@ use Rattle.text.specs.declared.Keys.{Keys}
 use Rattle.text.specs.Cells.{lineAt}
 use Rattle.text.specs.Inner.Scans.{Stop}
 use Rattle.exchange.specs.Profiles.{sameKey}
-use Rattle.exchange.specs.RowsWords.{keyAt}
+use Rattle.exchange.specs.Inner.Rows.{keyAt}
 use Rattle.exchange.proofs.RowLaws.{one-few}
 use Rattle.exchange.proofs.DataLaws.{border-one}
 use Rattle.exchange.proofs.ProfileLaws.{row-key, Walked, walk-none, walk-first, walk-row, walk-end}

@@ -2,7 +2,7 @@ use mathlib.Core.Path.{sym, subst}
 use mathlib.Core.Bool.{true, false}
 use native.Mathlib.Omega.{arith}
 use borrow.Author.Needs.{needs}
-use Rattle.exchange.specs.RowsWords.{LineRead}
+use Rattle.exchange.specs.Inner.Rows.{LineRead}
 use Rattle.exchange.proofs.DataLaws.{rows-below, line-test, line-held, line-within, line-stop, line-refused, line-none, line-end, line-full, line-odd, line-row}
 use Rattle.exchange.proofs.rows.data_line.Statement.{statement}
 use Rattle.exchange.proofs.rows.data_line.Tie as tie

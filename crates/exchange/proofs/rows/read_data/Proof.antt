@@ -6,7 +6,7 @@ use native.Mathlib.Omega.{arith}
 use lib.ListN.{length}
 use borrow.Author.Needs.{needs}
 use Rattle.text.specs.declared.Keys.{Keys}
-use Rattle.exchange.specs.Walks.{DataRead}
+use Rattle.exchange.specs.Inner.Rows.{DataRead}
 use Rattle.exchange.proofs.DataLaws.{SoFar, so-far-none, so-far-row, so-far-ended, so-far-out}
 use Rattle.exchange.proofs.rows.read_data.Statement.{statement}
 use Rattle.exchange.proofs.rows.read_data.Tie as tie

@@ -1,7 +1,7 @@
 use mathlib.Core.Path.{sym, subst}
 use native.Mathlib.Omega.{arith}
 use borrow.Author.Needs.{needs}
-use Rattle.exchange.specs.RowsWords.{RowRead}
+use Rattle.exchange.specs.Inner.Rows.{RowRead}
 use Rattle.exchange.proofs.RowLaws.{row-within, row-left, row-refused, row-odd, row-good, test-odd, test-whole}
 use Rattle.exchange.proofs.rows.read_row.Statement.{statement}
 use Rattle.exchange.proofs.rows.read_row.Tie as tie

@@ -2,7 +2,7 @@ use mathlib.Core.Path.{sym, _∙_}
 use lib.ListN.{length}
 use borrow.Author.Needs.{needs}
 use borrow.Author.Tests.{eq-eqb, ne-eqb}
-use Rattle.exchange.specs.RowsWords.{cellsOf}
+use Rattle.exchange.specs.Inner.Rows.{lineCells}
 use Rattle.exchange.proofs.rows.refused_at.Statement.{statement}
 use Rattle.exchange.proofs.rows.refused_at.Tie as tie
 
@@ -19,13 +19,13 @@ returns : tie.Need-returns
 returns c =
     let b = c .before .before in
     let a = b .before .before .args in
-    c .row-refused .ensures ∙ rw (eq-eqb (length (cellsOf (a .s .now) (a .at))) (a .rest) (sym (b .cells-between .ensures) ∙ c .before .if1 .taken))
+    c .row-refused .ensures ∙ rw (eq-eqb (length (lineCells (a .s .now) (a .at))) (a .rest) (sym (b .cells-between .ensures) ∙ c .before .if1 .taken))
 
 returns-2 : tie.Need-returns-2
 returns-2 c =
     let b = c .before .before in
     let a = b .before .before .args in
-    c .row-refused2 .ensures ∙ rw (ne-eqb (length (cellsOf (a .s .now) (a .at))) (a .rest) (λ z. c .before .if1 .left (b .cells-between .ensures ∙ z)))
+    c .row-refused2 .ensures ∙ rw (ne-eqb (length (lineCells (a .s .now) (a .at))) (a .rest) (λ z. c .before .if1 .left (b .cells-between .ensures ∙ z)))
 
 pub refused-at-spec : {M : Type 1} → statement M
 refused-at-spec =

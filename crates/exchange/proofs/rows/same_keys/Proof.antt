@@ -1,5 +1,5 @@
 use borrow.Author.Needs.{needs}
-use Rattle.exchange.specs.RowsWords.{keyAt}
+use Rattle.exchange.specs.Inner.Rows.{keyAt}
 use Rattle.exchange.proofs.DataLaws.{key-castno, key-stnnbr, key-expocode}
 use Rattle.exchange.proofs.rows.same_keys.Statement.{statement}
 use Rattle.exchange.proofs.rows.same_keys.Tie as tie

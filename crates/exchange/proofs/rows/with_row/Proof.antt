@@ -5,7 +5,7 @@ use lib.Dec.{ltb}
 use native.Mathlib.Omega.{arith}
 use borrow.Author.Needs.{needs}
 use Rattle.exchange.specs.Profiles.{sameKey}
-use Rattle.exchange.specs.RowsWords.{keyAt}
+use Rattle.exchange.specs.Inner.Rows.{keyAt}
 use Rattle.exchange.proofs.RowLaws.{one-few}
 use Rattle.exchange.proofs.DataLaws.{border-one}
 use Rattle.exchange.proofs.rows.with_row.Statement.{statement}

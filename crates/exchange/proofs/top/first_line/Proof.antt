@@ -1,7 +1,7 @@
 use mathlib.Core.Path.{refl, sym, _∙_}
 use native.Mathlib.Omega.{arith}
 use lib.Seq.{length-take-le}
-use Rattle.exchange.proofs.SurveyLaws.{line-stops}
+use Rattle.exchange.proofs.RunLaws.{line-stops}
 use Rattle.exchange.proofs.TopLaws.{first-none, first-broken, first-room, first-marked, first-neither, first-on, first-counted, first-stopped}
 use borrow.Author.Needs.{needs}
 use Rattle.exchange.proofs.top.first_line.Statement.{statement}

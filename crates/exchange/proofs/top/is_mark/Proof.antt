@@ -1,29 +1,32 @@
-use Rattle.exchange.proofs.TopLaws.{mark-short, mark-bytes}
+use mathlib.Core.Path.{sym}
+use native.Mathlib.Omega.{arith}
+use lib.Seq.{length-take-le}
+use Rattle.exchange.proofs.TopLaws.{mark-short}
 use borrow.Author.Needs.{needs}
 use Rattle.exchange.proofs.top.is_mark.Statement.{statement}
 use Rattle.exchange.proofs.top.is_mark.Tie as tie
 
 returns : tie.Need-returns
-returns c = mark-short (c .before .args .line .now) (c .if1 .taken)
+returns c = mark-short (c .before .before .args .line .now) (c .if1 .taken)
 
-shared-slice-read-result : tie.Need-shared-slice-read-result
-shared-slice-read-result c = search needs
+slice-aggregate-same : tie.Need-slice-aggregate-same
+slice-aggregate-same c = sym (length-take-le 3 (c .before .before .before .args .line .now) (omega (arith, c .before .if1 .left)))
 
-shared-slice-read-result-2 : tie.Need-shared-slice-read-result-2
-shared-slice-read-result-2 c = search needs
+slice-aggregate-same-2 : tie.Need-slice-aggregate-same-2
+slice-aggregate-same-2 c = search needs
 
-shared-slice-read-result-3 : tie.Need-shared-slice-read-result-3
-shared-slice-read-result-3 c = search needs
+same-requires : tie.Need-same-requires
+same-requires c κs = search needs
 
 returns-2 : tie.Need-returns-2
-returns-2 c = mark-bytes (c .before .before .before .before .args .line .now) (c .before .before .before .if1 .left)
+returns-2 c = c .same .ensures
 
 pub is-mark-spec : {M : Type 1} → statement M
 is-mark-spec =
     tie.close
     (tie.spec
     returns
-    shared-slice-read-result
-    shared-slice-read-result-2
-    shared-slice-read-result-3
+    slice-aggregate-same
+    slice-aggregate-same-2
+    same-requires
     returns-2)

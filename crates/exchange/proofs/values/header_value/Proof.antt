@@ -6,7 +6,7 @@ use native.Mathlib.Omega.{arith}
 use borrow.Author.Needs.{needs}
 use Rattle.exchange.specs.Headers.{Header}
 use Rattle.exchange.specs.Records.{headerValue}
-use Rattle.exchange.specs.HeadersWords.{HeaderLines}
+use Rattle.exchange.specs.Inner.Headers.{HeaderLines}
 use Rattle.exchange.proofs.ValueLaws.{none-read, HeadersLeft, headers-apart, headers-done, left-parted, left-passed, left-found}
 use Rattle.exchange.proofs.values.header_value.Statement.{statement}
 use Rattle.exchange.proofs.values.header_value.Tie as tie
