@@ -14,7 +14,7 @@ use Rattle.exchange.specs.Grid.{nowhere}
 use Rattle.exchange.specs.Columns.{kindOfName}
 use Rattle.exchange.specs.Places.{Table, Outcome, accepted, refused, outcomeOf}
 use Rattle.exchange.specs.Profiles.{grid}
-use Rattle.exchange.specs.Answers.{found, missed, askedBy, askedOf, cellPlace}
+use Rattle.exchange.specs.Answers.{isThere, found, missed, askedBy, askedOf, cellPlace}
 use Rattle.exchange.specs.Located.{nameAt, flagColumn, hasFlag, flagPlace, locatedBy, locatedOf}
 use Rattle.laws.proofs.AskedLaws.{row-many}
 use Rattle.laws.proofs.FirstBrokenLaws.{checks-first}
@@ -22,18 +22,20 @@ use Rattle.numbers.specs.Texts.{numberText, flagText, atRight}
 use Rattle.numbers.specs.Patches.{textAt}
 use Rattle.numbers.specs.Inner.Puts.{InCell}
 use Rattle.numbers.proofs.TextLaws.{number-some}
+use Rattle.exchange.proofs.CellLaws.{Inside as There}
+use Rattle.laws.proofs.AskedLaws.{there-inside}
 use Rattle.correction.specs.declared.Answer.the-variants.{Applied, Refused}
 use Rattle.correction.specs.declared.deciding.Decision.{Decision}
 use Rattle.correction.specs.declared.writing.CellPlaces.{CellPlaces}
 use Rattle.correction.specs.declared.Order.{Order}
-use Rattle.correction.specs.Corrections.{entry, isThere, noSuchCell, badFlag, anyLonger, textTooLong, test, testsOf, ownText, answerBy, answerOf, Fill, fill, fillAt, fillsBy, fillsOf, filled, correctedOf}
+use Rattle.correction.specs.Corrections.{entry, noSuchCell, badFlag, anyLonger, textTooLong, test, testsOf, ownText, answerBy, answerOf, Fill, fill, fillAt, fillsBy, fillsOf, filled, correctedOf}
 use Rattle.correction.specs.Inner.Writing.{Writes, fillsAt}
 use Rattle.correction.specs.Inner.Deciding.{firstNumber, testsAt, Decides}
 use Rattle.correction.proofs.FlagLaws.{flag-in}
 use Rattle.correction.proofs.GeometryLaws.{shape, begin, widthAt, width-cell, Inside, inside-of}
 use Rattle.correction.proofs.TestLaws.{first-here, first-later, byNumber, first-number}
 use Rattle.correction.proofs.PlanLaws.{span-inside, place-shape, text-place, lineOf, answer-view, decide}
-use Rattle.correction.proofs.FitLaws.{Asked, There, there, applied-asked, goods}
+use Rattle.correction.proofs.FitLaws.{Asked, applied-asked, goods}
 use Rattle.correction.proofs.ColumnLaws.{flag-of}
 
 -- ---- the file's refusal or 21; or the row and column are there
@@ -41,7 +43,7 @@ pub record Here (f : List ℕ) (o : Order) (x : Located) : Type 0 where
   pub table : Table
   pub rows : ℕ
   pub accepts : outcomeOf f ≡ accepted table rows
-  pub there : isThere table rows o ≡ true
+  pub there : isThere table rows (o .row) (o .column) ≡ true
   pub is : x ≡ locatedBy f (o .row) (o .column) (found table)
 
 module _ (f : List ℕ) (o : Order) (x : Located) (e : x ≡ locatedOf f (o .row) (o .column)) where
@@ -52,19 +54,19 @@ module _ (f : List ℕ) (o : Order) (x : Located) (e : x ≡ locatedOf f (o .row
   unfolding answerOf locatedOf askedOf
   answer-refused z = go (outcomeOf f) e
     where
-      by : (t : Table) (n : ℕ) (b : Bool) → isThere t n o ≡ b → x ≡ locatedBy f (o .row) (o .column) (cond b (found t) (missed 21 0 0)) → answerBy f o (accepted t n) ≡ Refused (x .number) (x .line) (x .column)
+      by : (t : Table) (n : ℕ) (b : Bool) → isThere t n (o .row) (o .column) ≡ b → x ≡ locatedBy f (o .row) (o .column) (cond b (found t) (missed 21 0 0)) → answerBy f o (accepted t n) ≡ Refused (x .number) (x .line) (x .column)
       by t n true h q = absurd (z (ap (λ (y : Located). y .number) q))
       by t n false h q = first-here (test 21 (noSuchCell t n o)) (drop 1 (testsOf t n (ownText t f o) o)) (ap not h) ∙ sym (ap (λ (y : Located). Refused (y .number) (y .line) (y .column)) q)
 
       go : (p : Outcome) → Is p → answerBy f o p ≡ Refused (x .number) (x .line) (x .column)
       go (refused a b c) q = sym (ap (λ (y : Located). Refused (y .number) (y .line) (y .column)) q)
-      go (accepted t n) q = by t n (isThere t n o) refl q
+      go (accepted t n) q = by t n (isThere t n (o .row) (o .column)) refl q
 
   pub located-here : x .number ≡ 0 → Here f o x
   unfolding locatedOf askedOf
   located-here z = go (outcomeOf f) refl e
     where
-      by : (t : Table) (n : ℕ) → outcomeOf f ≡ accepted t n → (b : Bool) → isThere t n o ≡ b → x ≡ locatedBy f (o .row) (o .column) (cond b (found t) (missed 21 0 0)) → Here f o x
+      by : (t : Table) (n : ℕ) → outcomeOf f ≡ accepted t n → (b : Bool) → isThere t n (o .row) (o .column) ≡ b → x ≡ locatedBy f (o .row) (o .column) (cond b (found t) (missed 21 0 0)) → Here f o x
       by t n a true h q = record { table = t; rows = n; accepts = a; there = h; is = q }
       by t n a false h q = let k : x .number ≡ 21 = ap (λ (y : Located). y .number) q in absurd (omega (arith, k, z))
 
@@ -72,7 +74,7 @@ module _ (f : List ℕ) (o : Order) (x : Located) (e : x ≡ locatedOf f (o .row
       go (refused a b c) h q =
           let k : x .number ≡ a = ap (λ (y : Located). y .number) q in
           absurd (omega (arith, k, z, checks-first .numbers f a b c (checks-first .refuses f a b c .0 h) .0))
-      go (accepted t n) h q = by t n h (isThere t n o) refl q
+      go (accepted t n) h q = by t n h (isThere t n (o .row) (o .column)) refl q
 
 -- ---- a cell of a row that is there: its place is as wide as the cell, and lies in the file
 module _ (f : List ℕ) (t : Table) (n r c : ℕ) (e : outcomeOf f ≡ accepted t n) (low : 1 ≤ r) (high : r ≤ n) (some : 1 ≤ c) (most : c ≤ length (t .names)) where
@@ -111,8 +113,8 @@ module _ (f : List ℕ) (o : Order) (x : Located) (h : Here f o x) where
   abbrev column : ℕ
   column = o .column
 
-  in-table : There t (h .rows) o
-  in-table = there t (h .rows) o (h .there)
+  in-table : There (o .row) (h .rows) (o .column) (length (t .names))
+  in-table = there-inside t (h .rows) (o .row) (o .column) (h .there)
 
   -- 25, by the place of the value's cell
   too-wide : textTooLong t (ownText t f o) o ≡ ltb (cellPlace t f (o .row) column .len) (length (numberText (o .millionths) (o .decimals)))
@@ -120,7 +122,7 @@ module _ (f : List ℕ) (o : Order) (x : Located) (h : Here f o x) where
   too-wide =
       or-false (ltb (length (ownText t f o column)) (length (numberText (o .millionths) (o .decimals))))
       ∙ ap (λ (k : ℕ). ltb k (length (numberText (o .millionths) (o .decimals))))
-      (place-long f t (h .rows) (o .row) column (h .accepts) (in-table .row) (in-table .rows) (in-table .col) (in-table .cols))
+      (place-long f t (h .rows) (o .row) column (h .accepts) (in-table .row) (in-table .rows) (in-table .column) (in-table .columns))
     where
       or-false : (b : Bool) → (b || false) ≡ b
       or-false true = refl
@@ -176,7 +178,7 @@ module _ (f : List ℕ) (o : Order) (x : Located) (h : Here f o x) where
     writes-table = record {
       few = asks .value .number .few;
       number =
-          place-cell f t (h .rows) (o .row) column (h .accepts) (in-table .row) (in-table .rows) (in-table .col) (in-table .cols) _
+          place-cell f t (h .rows) (o .row) column (h .accepts) (in-table .row) (in-table .rows) (in-table .column) (in-table .columns) _
           (number-some (o .millionths) (o .decimals)) (asks .value .fits);
       digit = flag-cell;
     }

@@ -14,13 +14,13 @@ use Rattle.text.specs.Cells.{pieces, lineAt, cellAt, cellEnd}
 use Rattle.text.specs.Spaces.{trimFront, trimEnd, trim}
 use Rattle.text.specs.Names.{isName}
 use Rattle.text.specs.Judge.{judge}
-use Rattle.text.specs.Verdicts.{isGood, sizeOf}
+use Rattle.text.specs.Verdicts.{isGood, sizeOf, decimalsOf, millionthsOf}
 use Rattle.text.specs.Inner.Scans.{Stop}
 use Rattle.text.proofs.CellLaws.{end-feed, cellEnd-from, cellEnd-within, cellEnd-parts, cell-end, pieces-last, pieces-more}
 use Rattle.exchange.specs.Inner.Columns.{Ends}
 use Rattle.exchange.proofs.NamesLineLaws.{ends-stop, ends-before, ends-moved}
 use Rattle.correction.specs.declared.ListLine.{ListLine}
-use Rattle.correction.specs.ListLines.{malformed, whole, isRow, decimalIn, millionthsIn, decimalsIn, fieldsRead, byFields}
+use Rattle.correction.specs.ListLines.{malformed, whole, isRow, decimalIn, fieldsRead, byFields}
 
 -- ---- from field to field
 abbrev pub after : ℕ → ℕ → ℕ
@@ -93,7 +93,7 @@ abbrev pub listed : ℕ → ℕ → ℕ → ℤ → ℕ → ℕ → ListLine
 listed row a len m d v = record { number = 0; row = row; name = record { start = a; len = len }; millionths = m; decimals = d; flag = v }
 
 abbrev pub lineOf : ℕ → List ℕ → List ℕ → List ℕ → List ℕ → ListLine
-lineOf a r n d g = listed (sizeOf (whole 7 r)) a (length n) (millionthsIn (decimalIn d)) (decimalsIn (decimalIn d)) (sizeOf (whole 1 g))
+lineOf a r n d g = listed (sizeOf (whole 7 r)) a (length n) (millionthsOf (decimalIn d)) (decimalsOf (decimalIn d)) (sizeOf (whole 1 g))
 
 pub fields-line : (a : ℕ) (r n d g : List ℕ) → a ≡ length r + 1 → cond (allGood r n d g) (lineOf a r n d g) malformed ≡ fieldsRead r n d g
 unfolding fieldsRead allGood

@@ -13,7 +13,7 @@ use Rattle.text.specs.Names.{beginsCtd}
 use Rattle.text.specs.Verdicts.{Verdict, blank, wrong, outOfRange, good, isGood}
 use Rattle.text.specs.Spaces.{trimFront, trimEnd, trim}
 use Rattle.text.specs.Kinds.{kindOf}
-use Rattle.text.specs.Judge.{judge}
+use Rattle.text.specs.Judge.{judge, inSet}
 use Rattle.text.proofs.EveryLaws.{every-cons}
 use Rattle.text.proofs.LineLaws as line
 use Rattle.exchange.specs.Faults.{clean, _then_, unless, kindFault, firstOf}
@@ -22,10 +22,12 @@ use Rattle.exchange.specs.Rows.{cellRules, rowRules}
 use Rattle.exchange.specs.Places.{Table, accepted, outcomeOf}
 use Rattle.exchange.specs.Inner.Faults.{cellFault, rowFault}
 use Rattle.exchange.specs.Profiles.{grid}
-use Rattle.exchange.specs.Answers.{kindAt}
+use Rattle.exchange.specs.Answers.{isThere, kindAt}
 use Rattle.exchange.specs.Located.{nameAt, isMeasured, flagColumn, hasFlag}
 use Rattle.exchange.proofs.HeaderLaws.{then-clean, breaks-clean}
 use Rattle.exchange.proofs.GridLaws.{cells-many}
+use Rattle.exchange.proofs.CellLaws.{Inside}
+use Rattle.laws.proofs.AskedLaws.{there-inside}
 use Rattle.laws.proofs.JoinLaws.{Free, All}
 use Rattle.laws.proofs.WriteLaws.{RowHolds, row-holds, Fits}
 use Rattle.numbers.specs.Texts.{size, numberText, flagText}
@@ -33,7 +35,7 @@ use Rattle.numbers.proofs.DigitLaws.{every-from}
 use Rattle.numbers.proofs.TextLaws.{atRight-length, isPlain, number-plain, flag-plain, Writable, number-judged}
 use Rattle.correction.specs.declared.Answer.the-variants.{Applied}
 use Rattle.correction.specs.declared.Order.{Order}
-use Rattle.correction.specs.Corrections.{Entry, entry, entriesOf, numberEntries, isThere, notCorrectable, badNumber, inSet, badFlag, anyLonger, testsOf}
+use Rattle.correction.specs.Corrections.{Entry, entry, entriesOf, numberEntries, notCorrectable, badNumber, badFlag, anyLonger, testsOf}
 use Rattle.correction.specs.Demand3.{NoneHolds}
 use Rattle.correction.proofs.FlagLaws.{flag-judged}
 use Rattle.correction.proofs.GeometryLaws.{Shape, shape, cell-row, widthAt, width-cell, inside-of}
@@ -57,25 +59,10 @@ pub record Asked (t : Table) (n : ℕ) (sh : Shape) (o : Order) : Type 0 where
   pub value : NumberAsked sh (lineOf t o) (o .column) (o .millionths) (o .decimals)
   pub flag : hasFlag t (o .column) ≡ true → inSet (beginsCtd (nameAt t (o .column))) (o .flag) ≡ true
 
--- 21
-pub record There (t : Table) (n : ℕ) (o : Order) : Type 0 where
-  pub row : 1 ≤ o .row
-  pub rows : o .row ≤ n
-  pub col : 1 ≤ o .column
-  pub cols : o .column ≤ length (t .names)
-
-pub there : (t : Table) (n : ℕ) (o : Order) → isThere t n o ≡ true → There t n o
-there t n o e =
-    let m : ℕ = length (t .names) in
-    let both = (and-eq-true-iff (leb 1 (o .row) && leb (o .row) n) (leb 1 (o .column) && leb (o .column) m)) .0 e in
-    let r = (and-eq-true-iff (leb 1 (o .row)) (leb (o .row) n)) .0 (both .0) in
-    let c = (and-eq-true-iff (leb 1 (o .column)) (leb (o .column) m)) .0 (both .1) in
-    record { row = leb-true 1 (o .row) (r .0); rows = leb-true (o .row) n (r .1); col = leb-true 1 (o .column) (c .0); cols = leb-true (o .column) m (c .1) }
-
 -- 22
-column-good : (t : Table) (n : ℕ) (o : Order) → There t n o → notCorrectable t o ≡ false → Measured t (o .column)
+column-good : (t : Table) (n : ℕ) (o : Order) → Inside (o .row) n (o .column) (length (t .names)) → notCorrectable t o ≡ false → Measured t (o .column)
 column-good t n o w e = record {
-  in-line = omega (arith, w .col, w .cols);
+  in-line = omega (arith, w .column, w .columns);
   kind = eqb-true (kindAt t (o .column)) 0 (not-false (isMeasured t (o .column)) e);
 }
 
@@ -114,13 +101,13 @@ text-fits own (x ∷ es) e =
 asked : (t : Table) (n : ℕ) (sh : Shape) (o : Order) → NoneHolds (testsOf t n (blankRow sh (lineOf t o)) o) → Asked t n sh o
 asked t n sh o w =
     let ts = testsOf t n (blankRow sh (lineOf t o)) o in
-    let h = there t n o (not-false (isThere t n o) (passed 21 ts w)) in
+    let h = there-inside t n (o .row) (o .column) (not-false (isThere t n (o .row) (o .column)) (passed 21 ts w)) in
     let x = text-fits (blankRow sh (lineOf t o)) (numberEntries t o) (passed 25 ts w) in
     record {
       row = h .row;
       rows = h .rows;
-      col = h .col;
-      cols = h .cols;
+      col = h .column;
+      cols = h .columns;
       measured = column-good t n o h (passed 22 ts w);
       value = record { number = number-good o (passed 23 ts w); fits = omega (arith, x .0, blank-width sh (lineOf t o) (o .column)) };
       flag = flag-good t o (passed 24 ts w);

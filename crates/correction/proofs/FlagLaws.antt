@@ -7,11 +7,10 @@ use lib.Dec.{eqb, leb}
 use borrow.Author.Tests.{leb-true}
 use Rattle.text.specs.Verdicts.{good}
 use Rattle.text.specs.Kinds.{kindOf}
-use Rattle.text.specs.Judge.{judge, ofKind, wholeOf, inFlags}
+use Rattle.text.specs.Judge.{judge, ofKind, wholeOf, inSet, inFlags}
 use Rattle.text.proofs.CellLaws.{both-true}
 use Rattle.numbers.specs.Texts.{flagText, atRight}
 use Rattle.numbers.proofs.TextLaws.{flag-whole, flag-trim}
-use Rattle.correction.specs.Corrections.{inSet}
 
 pub flag-in : (ctd : Bool) (v : ℕ) → inSet ctd v ≡ true → (1 ≤ v) × (v ≤ 9) × (not (ctd && eqb v 8) ≡ true)
 flag-in ctd v h =

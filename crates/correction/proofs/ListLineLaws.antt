@@ -13,7 +13,7 @@ use Rattle.text.specs.declared.Judged.{Judged}
 use Rattle.text.specs.Cells.{firstPiece, laterPieces, pieces, cellEnd}
 use Rattle.text.specs.Spaces.{trimFront, trimEnd, trim}
 use Rattle.text.specs.Names.{isName}
-use Rattle.text.specs.Verdicts.{Verdict, blank, wrong, outOfRange, good, isGood, signed}
+use Rattle.text.specs.Verdicts.{Verdict, blank, wrong, outOfRange, good, isGood, decimalsOf, signed, millionthsOf}
 use Rattle.text.specs.Kinds.{kindOf}
 use Rattle.text.specs.Judge.{judgedOf, judgedAt, wholeAt}
 use Rattle.text.proofs.CellLaws.{isEnd, cellEnd-from, cellEnd-within, cell-in, cell-end}
@@ -25,7 +25,7 @@ use Rattle.exchange.proofs.GridWalkLaws.{cell-slice}
 use Rattle.exchange.proofs.GridLaws.{total, total-pieces}
 use Rattle.exchange.proofs.CellLaws.{size-anywhere}
 use Rattle.correction.specs.declared.ListLine.{ListLine}
-use Rattle.correction.specs.ListLines.{malformed, whole, isRow, decimalIn, millionthsIn, decimalsIn, byFields, isOneLine, lineRead}
+use Rattle.correction.specs.ListLines.{malformed, whole, isRow, decimalIn, byFields, isOneLine, lineRead}
 use Rattle.correction.proofs.FieldLaws.{after, field, fields, tabs-stop, after-ends, after-fields, allGood, listed, lineOf, fields-line, goodAt, lineWith, four-fields}
 
 -- ---- a field's verdict as its record gives it
@@ -35,13 +35,13 @@ record-good n wrong = refl
 record-good n outOfRange = refl
 record-good n (good m v d) = refl
 
-record-decimals : (n : ℕ) (v : Verdict) → judgedOf n v .decimals ≡ decimalsIn v
+record-decimals : (n : ℕ) (v : Verdict) → judgedOf n v .decimals ≡ decimalsOf v
 record-decimals n blank = refl
 record-decimals n wrong = refl
 record-decimals n outOfRange = refl
 record-decimals n (good m v d) = refl
 
-record-millionths : (n : ℕ) (v : Verdict) → signed (judgedOf n v .minus) (judgedOf n v .size) ≡ millionthsIn v
+record-millionths : (n : ℕ) (v : Verdict) → signed (judgedOf n v .minus) (judgedOf n v .size) ≡ millionthsOf v
 unfolding signed
 record-millionths n blank = refl
 record-millionths n wrong = refl

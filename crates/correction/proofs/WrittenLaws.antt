@@ -3,7 +3,7 @@ use Prim.Native.Nat.{ℕ, _+_, _-_, _%_, _^_, _<_}
 use mathlib.Core.Path.{_≡_, refl, sym, ap, _∙_}
 use mathlib.Core.Logic.{_↔_}
 use mathlib.Core.Bool.{Bool, true, false, cond, not, _&&_, _||_, true≢false, false≢true}
-use mathlib.Core.List.{map}
+use mathlib.Core.List.{List}
 use native.Mathlib.Omega.{arith}
 use lib.ListN.{length, length-map, List·getD-eq-default}
 use lib.Dec.{eqb, leb, ltb}
@@ -12,16 +12,16 @@ use Rattle.text.specs.Bytes.{every}
 use Rattle.text.specs.Names.{beginsCtd}
 use Rattle.text.specs.Verdicts.{wrong, outOfRange, good, isGood}
 use Rattle.text.specs.Kinds.{kindOf}
-use Rattle.text.specs.Judge.{judge, ofKind, wholeOf, inFlags}
+use Rattle.text.specs.Judge.{judge, ofKind, wholeOf, inSet, inFlags}
 use Rattle.text.proofs.ScanLaws.{digit-high}
 use Rattle.text.proofs.SpaceLaws.{isSolid, trim-solid}
-use Rattle.exchange.specs.Columns.{Column, columnOf, columnsOf}
+use Rattle.exchange.specs.Columns.{flagFrom, flagsOf}
 use Rattle.exchange.specs.Places.{Table}
 use Rattle.exchange.specs.Located.{nameAt, flagColumn, hasFlag}
 use Rattle.numbers.specs.Texts.{size, flagText, atRight}
 use Rattle.numbers.proofs.DigitLaws.{every-one}
 use Rattle.numbers.proofs.TextLaws.{number-exactly, flag-whole}
-use Rattle.correction.specs.Corrections.{inSet, badNumber, badFlag}
+use Rattle.correction.specs.Corrections.{badNumber, badFlag}
 use Rattle.correction.specs.WrittenTexts.{NumberExactly, FlagExactly}
 use Rattle.correction.proofs.FlagLaws.{flag-judged}
 use Rattle.correction.proofs.ColumnLaws.{flag-of}
@@ -63,18 +63,15 @@ flag-high : (v : ℕ) → 9 < v → wholeOf 1 (flagText v) ≡ wrong
 unfolding wholeOf every
 flag-high v h = rw (digit-high (48 + v) (omega arith))
 
-none-in : (a b : Bool) (v : ℕ) → cond (a || b) outOfRange (good false v 0) ≡ good false v 0 → (a ≡ false) × (b ≡ false)
-none-in true b v e = absurd (false≢true (ap isGood e))
-none-in false true v e = absurd (false≢true (ap isGood e))
-none-in false false v e = (refl, refl)
+good-in : (b : Bool) (v : ℕ) → cond b (good false v 0) outOfRange ≡ good false v 0 → b ≡ true
+good-in true v e = refl
+good-in false v e = absurd (false≢true (ap isGood e))
 
 flag-only : (ctd : Bool) (v : ℕ) → inFlags ctd (wholeOf 1 (flagText v)) ≡ good false v 0 → inSet ctd v ≡ true
 flag-only ctd v = go (leb v 9) refl
   where
     go : (b : Bool) → leb v 9 ≡ b → inFlags ctd (wholeOf 1 (flagText v)) ≡ good false v 0 → inSet ctd v ≡ true
-    go true l e =
-        let w = none-in (eqb v 0) (ctd && eqb v 8) v (sym (ap (inFlags ctd) (flag-whole v (leb-true v 9 l))) ∙ e) in
-        rw (l, le-leb 1 v (omega (arith, eqb-false v 0 (w .0))), w .1)
+    go true l e = good-in (inSet ctd v) v (sym (ap (inFlags ctd) (flag-whole v (leb-true v 9 l))) ∙ e)
     go false l e = absurd (false≢true (ap isGood (sym (ap (inFlags ctd) (flag-high v (leb-false v 9 l))) ∙ e)))
 
 flag-exactly : (ctd : Bool) (v : ℕ) → (inSet ctd v ≡ true) ↔ (judge (kindOf (cond ctd 5 4)) (flagText v) ≡ good false v 0)
@@ -91,8 +88,7 @@ has-column t c h = go (ltb (c - 1) (length (t .names))) refl
     go false e = absurd (false≢true (ap (ltb 0) (sym past) ∙ h))
       where
         past : flagColumn t c ≡ 0
-        past = List·getD-eq-default (map (λ (x : Column). x .flag) (columnsOf (t .names))) 0
-            (rw (length-map (columnsOf (t .names)) (λ (x : Column). x .flag), length-map (t .names) (columnOf (t .names))) (ltb-false (c - 1) (length (t .names)) e))
+        past = List·getD-eq-default (flagsOf (t .names)) 0 (rw (length-map (t .names) (λ (n : List ℕ). flagFrom 1 n (t .names))) (ltb-false (c - 1) (length (t .names)) e))
 
 -- the test by whether there is a flag column
 test-flagged : (b ctd : Bool) (v : ℕ) → b ≡ true → (not (cond b (inSet ctd v) (eqb v 0)) ≡ false) ↔ (inSet ctd v ≡ true)

@@ -7,8 +7,9 @@ use lib.Dec.{eqb, leb, ltb}
 use lib.IntN.{ℤ}
 use Rattle.text.specs.declared.Span.{Span}
 use Rattle.text.specs.Names.{beginsCtd}
+use Rattle.text.specs.Judge.{inSet}
 use Rattle.exchange.specs.Places.{Table, Outcome, accepted, refused, outcomeOf}
-use Rattle.exchange.specs.Answers.{cellPlace}
+use Rattle.exchange.specs.Answers.{isThere, cellPlace}
 use Rattle.exchange.specs.Located.{nameAt, isMeasured, flagColumn, hasFlag}
 use Rattle.numbers.specs.Texts.{size, numberText, flagText, atRight}
 use Rattle.numbers.specs.Patches.{textAt, patch}
@@ -45,11 +46,8 @@ numberEntries t o = valueEntry o ∷ []
 
 -- ---- the refusals of a correction, each in the words of the table. The table of the file is t, with n rows.
 -- 21: no such row or column
-abbrev pub isThere : Table → ℕ → Order → Bool
-isThere t n o = leb 1 (o .row) && leb (o .row) n && (leb 1 (o .column) && leb (o .column) (length (t .names)))
-
 abbrev pub noSuchCell : Table → ℕ → Order → Bool
-noSuchCell t n o = not (isThere t n o)
+noSuchCell t n o = not (isThere t n (o .row) (o .column))
 
 -- 22: the column isn't of the kind that is corrected, measured
 abbrev pub notCorrectable : Table → Order → Bool
@@ -60,9 +58,6 @@ unfoldable pub badNumber : Order → Bool
 badNumber o = ltb 6 (o .decimals) || (not (ltb (size (o .millionths)) (10 ^ 15)) || not (eqb (size (o .millionths) % 10 ^ (6 - o .decimals)) 0))
 
 -- 24: flag not in the set, 1 to 9, but 8 isn't used where the parameter's name begins with CTD; or not 0 where there is no flag column
-abbrev pub inSet : Bool → ℕ → Bool
-inSet ctd v = leb 1 v && leb v 9 && not (ctd && eqb v 8)
-
 -- of a column by whether it has a flag column, and whether its name begins so
 abbrev pub wrongFlag : Bool → Bool → ℕ → Bool
 wrongFlag flagged ctd v = not (cond flagged (inSet ctd v) (eqb v 0))

@@ -5,12 +5,12 @@ use mathlib.Core.List.{List, [], _∷_}
 use mathlib.Core.Bool.{Bool, cond, not, _&&_}
 use lib.ListN.{length, getD}
 use lib.Dec.{eqb}
-use lib.IntN.{ℤ, pos}
+use lib.IntN.{pos}
 use Rattle.text.specs.Bytes.{isSpace, every}
 use Rattle.text.specs.Cells.{firstPiece, pieces}
 use Rattle.text.specs.Spaces.{trim}
 use Rattle.text.specs.Names.{isName}
-use Rattle.text.specs.Verdicts.{Verdict, blank, wrong, outOfRange, good, signed, isGood, sizeOf}
+use Rattle.text.specs.Verdicts.{Verdict, isGood, sizeOf, decimalsOf, millionthsOf}
 use Rattle.text.specs.Kinds.{measured}
 use Rattle.text.specs.Judge.{judge, wholeOf, unlessBlank}
 use Rattle.correction.specs.declared.ListLine.{ListLine}
@@ -29,19 +29,6 @@ isRow x = isGood (whole 7 x) && not (eqb (getD x 0 0) 48)
 abbrev pub decimalIn : List ℕ → Verdict
 decimalIn x = judge measured x
 
--- the decimal's millionths, and its decimals as written
-abbrev pub millionthsIn : Verdict → ℤ
-millionthsIn blank = pos 0
-millionthsIn wrong = pos 0
-millionthsIn outOfRange = pos 0
-millionthsIn (good m v d) = signed m v
-
-abbrev pub decimalsIn : Verdict → ℕ
-decimalsIn blank = 0
-decimalsIn wrong = 0
-decimalsIn outOfRange = 0
-decimalsIn (good m v d) = d
-
 -- the four fields: row r, name n, decimal d, flag g
 unfoldable pub fieldsRead : List ℕ → List ℕ → List ℕ → List ℕ → ListLine
 fieldsRead r n d g =
@@ -50,8 +37,8 @@ fieldsRead r n d g =
       number = 0;
       row = sizeOf (whole 7 r);
       name = record { start = length r + 1; len = length n };
-      millionths = millionthsIn (decimalIn d);
-      decimals = decimalsIn (decimalIn d);
+      millionths = millionthsOf (decimalIn d);
+      decimals = decimalsOf (decimalIn d);
       flag = sizeOf (whole 1 g);
     })
     malformed

@@ -10,7 +10,8 @@ use Rattle.exchange.specs.Places.{Table}
 use Rattle.exchange.specs.Located.{flagColumn, hasFlag}
 use Rattle.laws.specs.Promises.{columnKind}
 use Rattle.numbers.specs.Texts.{size, isBelow, numberText, flagText}
-use Rattle.correction.specs.Corrections.{Order, badNumber, badFlag}
+use Rattle.correction.specs.declared.Order.{Order}
+use Rattle.correction.specs.Corrections.{badNumber, badFlag}
 
 -- 23: the number's text in a measured column
 abbrev pub NumberExactly : Type 0

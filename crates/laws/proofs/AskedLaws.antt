@@ -8,10 +8,10 @@ use native.Mathlib.Nat.{not-suc-le-zero, le-of-suc-le-suc}
 use native.Mathlib.Omega.{arith}
 use lib.ListN.{length, getD, drop, length-drop, length-map}
 use lib.Seq.{getD-take, getD-drop, length-take-le}
-use lib.Dec.{eqb}
-use borrow.Author.Tests.{eqb-true, eqb-false, ne-eqb}
+use lib.Dec.{eqb, leb}
+use borrow.Author.Tests.{le-leb, leb-true, eqb-true, eqb-false, ne-eqb}
 use Rattle.text.specs.Cells.{pieces}
-use Rattle.text.specs.Verdicts.{Verdict, blank, wrong, outOfRange, good}
+use Rattle.text.specs.Verdicts.{Verdict, blank, wrong, outOfRange, good, millionthsOf}
 use Rattle.text.specs.Kinds.{Kind, measured, latitude, longitude, depth, flag, ctdFlag, expocode, stnnbr, castno, date, time, free, kindOf}
 use Rattle.text.specs.Judge.{judge, ofKind, inSet, inFlags, wholeOf, unlessBlank}
 use Rattle.text.specs.Reading.{readNumber, isDecimal, readingOf}
@@ -26,11 +26,12 @@ use Rattle.exchange.specs.Rows.{cellRules, rowRules}
 use Rattle.exchange.specs.Places.{Table, accepted, outcomeOf}
 use Rattle.exchange.specs.Inner.Faults.{cellFault, rowFault}
 use Rattle.exchange.specs.Profiles.{grid}
-use Rattle.exchange.specs.Answers.{found, missed, askedBy, askedOf, kindAt, rowsIn, rowCells, cellText, cellBy, cellOf, refusalBy, readingBy, readingFor, flaggedBy, flaggedOf}
-use Rattle.laws.specs.Promises.{IsThere, columnKind, cellVerdict, millionthsOf, IsFlag, Refuses, GivesFlag, Answers, AskedExactly}
+use Rattle.exchange.specs.Answers.{isThere, found, missed, askedBy, askedOf, kindAt, rowsIn, rowCells, cellText, cellBy, cellOf, refusalBy, readingBy, readingFor, flaggedBy, flaggedOf}
+use Rattle.laws.specs.Promises.{columnKind, cellVerdict, IsFlag, Refuses, GivesFlag, Answers, AskedExactly}
 use Rattle.exchange.proofs.AcceptLaws.{rows-kept}
 use Rattle.exchange.proofs.GridLaws.{getD-mapped, cells-many}
-use Rattle.exchange.proofs.CellLaws.{outside, inside-by, asked-inside, asked-outside}
+use Rattle.text.proofs.CellLaws.{both-true}
+use Rattle.exchange.proofs.CellLaws.{Inside}
 
 -- ---- the cells of an accepted file are good
 pub record Good (v : Verdict) : Type 0 where
@@ -62,6 +63,17 @@ rules-cells ks ts e = go (eqb (length ts) (length ks)) (cellFault 1 ks ts) e
     go true (breaks a b) e = e
     go false g e = let z : _≡_ {A = ℕ} 0 1 = cc in absurd (omega arith)
 
+-- row r and column c are there: both stand between 1 and their number
+pub there-inside : (t : Table) (n r c : ℕ) → isThere t n r c ≡ true → Inside r n c (length (t .names))
+there-inside t n r c e =
+    let w = both-true (leb 1 r && leb r n) (leb 1 c && leb c (length (t .names))) e in
+    let x = both-true (leb 1 r) (leb r n) (w .0) in
+    let y = both-true (leb 1 c) (leb c (length (t .names))) (w .1) in
+    record { row = leb-true 1 r (x .0); rows = leb-true r n (x .1); column = leb-true 1 c (y .0); columns = leb-true c (length (t .names)) (y .1) }
+
+pub inside-there : (t : Table) (n r c : ℕ) → Inside r n c (length (t .names)) → isThere t n r c ≡ true
+inside-there t n r c i = rw (le-leb 1 r (i .row), le-leb r n (i .rows), le-leb 1 c (i .column), le-leb c (length (t .names)) (i .columns))
+
 module _ (f : List ℕ) (t : Table) (n : ℕ) (e : outcomeOf f ≡ accepted t n) where
   -- the file has so many rows, and they are its data lines
   pub rows-many : length (rowsIn t n f) ≡ n
@@ -91,26 +103,23 @@ module _ (f : List ℕ) (t : Table) (n : ℕ) (e : outcomeOf f ≡ accepted t n)
   pub row-many : (r : ℕ) → 1 ≤ r → r ≤ n → length (rowCells t f r) ≡ length (kindsOf (t .names))
   row-many r a b = cells-many (kindsOf (t .names)) (rowCells t f r) (row-rules r a b)
 
-  pub cell-good : (r c : ℕ) → IsThere t n r c → Good (cellVerdict t f r c)
+  pub cell-good : (r c : ℕ) → isThere t n r c ≡ true → Good (cellVerdict t f r c)
   cell-good r c h =
+      let i = there-inside t n r c h in
       let m : length (kindsOf (t .names)) ≡ length (t .names) = length-map (t .names) kindOfName in
-      cells-good 1 (kindsOf (t .names)) (rowCells t f r) (rules-cells (kindsOf (t .names)) (rowCells t f r) (row-rules r (h .0) (h .1))) (c - 1)
-      (omega (arith, m, h .2, h .3)) (omega (arith, m, row-many r (h .0) (h .1), h .2, h .3))
+      cells-good 1 (kindsOf (t .names)) (rowCells t f r) (rules-cells (kindsOf (t .names)) (rowCells t f r) (row-rules r (i .row) (i .rows))) (c - 1)
+      (omega (arith, m, i .column, i .columns)) (omega (arith, m, row-many r (i .row) (i .rows), i .column, i .columns))
 
-  pub asked-there : (r c : ℕ) → IsThere t n r c → askedOf f r c ≡ found t
+  pub asked-there : (r c : ℕ) → isThere t n r c ≡ true → askedOf f r c ≡ found t
   unfolding askedOf
-  asked-there r c h = ap (askedBy r c) e ∙ asked-inside r n c t (record { row = h .0; rows = h .1; column = h .2; columns = h .3 })
+  asked-there r c h = ap (askedBy r c) e ∙ rw h
 
-  pub asked-absent : (r c : ℕ) → (IsThere t n r c → ⊥) → askedOf f r c ≡ missed 21 0 0
+  pub asked-absent : (r c : ℕ) → isThere t n r c ≡ false → askedOf f r c ≡ missed 21 0 0
   unfolding askedOf
-  asked-absent r c h = ap (askedBy r c) e ∙ asked-outside r n c t (go (outside r n c (length (t .names))) refl)
-    where
-      go : (z : Bool) → outside r n c (length (t .names)) ≡ z → z ≡ true
-      go true q = refl
-      go false q = let i = inside-by r n c (length (t .names)) q in absurd (h (i .row, i .rows, i .column, i .columns))
+  asked-absent r c h = ap (askedBy r c) e ∙ rw h
 
   -- the reading of a decimal column is the number that the cell writes
-  pub reading-there : (r c : ℕ) → IsThere t n r c → isDecimal (columnKind t c) ≡ true → readingFor f r c ≡ readNumber (millionthsOf (cellVerdict t f r c))
+  pub reading-there : (r c : ℕ) → isThere t n r c ≡ true → isDecimal (columnKind t c) ≡ true → readingFor f r c ≡ readNumber (millionthsOf (cellVerdict t f r c))
   unfolding readingFor readingOf
   reading-there r c h d =
       let g = cell-good r c h in
@@ -208,7 +217,7 @@ no-flag-test k h = go (eqb k 4) (eqb k 5) refl refl
     go false true p q = absurd (h (inr (ap kindOf (eqb-true k 5 q))))
     go false false p q = refl
 
-module _ (f : List ℕ) (t : Table) (n : ℕ) (e : outcomeOf f ≡ accepted t n) (r c : ℕ) (h : IsThere t n r c) where
+module _ (f : List ℕ) (t : Table) (n : ℕ) (e : outcomeOf f ≡ accepted t n) (r c : ℕ) (h : isThere t n r c ≡ true) where
   flag-there : IsFlag (columnKind t c) → GivesFlag f t r c
   unfolding flaggedOf
   flag-there k =

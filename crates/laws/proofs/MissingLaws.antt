@@ -11,7 +11,7 @@ use lib.Dec.{eqb, ltb}
 use lib.IntN.{ℤ, pos, negℤ}
 use borrow.Author.Tests.{eqb-true, eqb-false, eq-eqb, ne-eqb, ltb-false}
 use Rattle.text.specs.declared.Reading.the-variants.{Present, Missing}
-use Rattle.text.specs.Verdicts.{Verdict, blank, wrong, outOfRange, good, signed}
+use Rattle.text.specs.Verdicts.{Verdict, blank, wrong, outOfRange, good, signed, millionthsOf}
 use Rattle.text.specs.Kinds.{Kind, measured, latitude, longitude, depth, kindOf}
 use Rattle.text.specs.Judge.{judge, judgedOf}
 use Rattle.text.specs.Reading.{doubleOf, isMissing, readNumber, isDecimal, readingOf}
@@ -22,10 +22,10 @@ use Rattle.text.proofs.ReadingLaws.{decimal-below, reading-missing}
 use Rattle.exchange.specs.Columns.{kindOfName, kindsOf}
 use Rattle.exchange.specs.Places.{Table, Outcome, accepted, refused, outcomeOf}
 use Rattle.exchange.specs.Profiles.{missingInRow, missingInRows}
-use Rattle.exchange.specs.Answers.{checkedBy, checkedOf, kindAt, rowsIn, rowCells, cellText, missingOf, readingBy, readingFor}
+use Rattle.exchange.specs.Answers.{checkedBy, checkedOf, isThere, kindAt, rowsIn, rowCells, cellText, missingOf, readingBy, readingFor}
 use Rattle.exchange.specs.Located.{isMeasured}
-use Rattle.laws.specs.Promises.{IsThere, columnKind, cellVerdict, millionthsOf, MissingExactly, PresentThere, isMissingReading, measuredBy, sumFrom, missingPairs, MissingCounted}
-use Rattle.laws.proofs.AskedLaws.{Good, rows-many, row-in, row-many, cell-good, asked-there, reading-there}
+use Rattle.laws.specs.Promises.{columnKind, cellVerdict, MissingExactly, PresentThere, isMissingReading, measuredBy, sumFrom, missingPairs, MissingCounted}
+use Rattle.laws.proofs.AskedLaws.{Good, inside-there, rows-many, row-in, row-many, cell-good, asked-there, reading-there}
 
 -- ---- a decimal is missing exactly when it equals -999
 reads-missing : (k : ℕ) (v : Verdict) → Good v → isDecimal (kindOf k) ≡ true → (readingOf k (judgedOf 0 v) ≡ Missing) ↔ (millionthsOf v ≡ negℤ (pos 999000000))
@@ -101,7 +101,7 @@ module _ (f : List ℕ) (t : Table) (n : ℕ) (e : outcomeOf f ≡ accepted t n)
   pairOf : ℕ → ℕ → ℕ
   pairOf r c = cond (isMeasured t c && isMissingReading (readingFor f r c)) 1 0
 
-  pair-is : (r c : ℕ) → IsThere t n r c → missingIn (kindAt t c) (cellVerdict t f r c) ≡ pairOf r c
+  pair-is : (r c : ℕ) → isThere t n r c ≡ true → missingIn (kindAt t c) (cellVerdict t f r c) ≡ pairOf r c
   unfolding missingIn pairOf
   pair-is r c h = go (eqb (kindAt t c) 0) refl
     where
@@ -144,7 +144,7 @@ module _ (f : List ℕ) (t : Table) (n : ℕ) (e : outcomeOf f ≡ accepted t n)
       one j h =
           let w : 1 + j - 1 ≡ j = omega arith in
           subst (λ (k : ℕ). missingIn (getD (kindsOf (t .names)) k 0) (judge (kindOf (getD (kindsOf (t .names)) k 0)) (getD (rowCells t f r) k [])) ≡ pairOf f t n e r (1 + j)) w
-          (pair-is f t n e r (1 + j) (a, b, omega arith, omega arith))
+          (pair-is f t n e r (1 + j) (inside-there t n r (1 + j) (record { row = a; rows = b; column = omega arith; columns = omega arith })))
 
   file-pairs : missingOf t n f ≡ sumFrom 1 n (λ r. sumFrom 1 (length (t .names)) (pairOf f t n e r))
   file-pairs =

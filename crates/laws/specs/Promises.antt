@@ -5,11 +5,10 @@ use mathlib.Core.Path.{_≡_}
 use mathlib.Core.Logic.{_↔_, _⊎_}
 use mathlib.Core.List.{List, [], _∷_, _++_}
 use mathlib.Core.Bool.{Bool, true, false, cond, _&&_}
-use lib.ListN.{length}
-use lib.IntN.{ℤ, pos, negℤ}
+use lib.IntN.{pos, negℤ}
 use Rattle.text.specs.declared.Reading.{Reading}
 use Rattle.text.specs.declared.Reading.the-variants.{Present, Missing, Refused}
-use Rattle.text.specs.Verdicts.{Verdict, blank, wrong, outOfRange, good, signed}
+use Rattle.text.specs.Verdicts.{Verdict, millionthsOf}
 use Rattle.text.specs.Kinds.{Kind, measured, latitude, longitude, depth, flag, ctdFlag, kindOf}
 use Rattle.text.specs.Judge.{judge}
 use Rattle.text.specs.Reading.{doubleOf, readNumber, isDecimal}
@@ -18,27 +17,17 @@ use Rattle.exchange.specs.Faults.{Fault, clean, breaks}
 use Rattle.exchange.specs.Columns.{bottle, ctd, kindsOf}
 use Rattle.exchange.specs.Places.{Table, after, Outcome, accepted, refused, outcomeOf}
 use Rattle.exchange.specs.Profiles.{Key, keyOf}
-use Rattle.exchange.specs.Answers.{checkedBy, checkedOf, askedOf, kindAt, rowCells, cellText, cellPlace, trimmedPlace, cellOf, refusalBy, readingFor, flaggedOf}
+use Rattle.exchange.specs.Answers.{checkedBy, checkedOf, isThere, askedOf, kindAt, rowCells, cellText, cellPlace, trimmedPlace, cellOf, refusalBy, readingFor, flaggedOf}
 use Rattle.exchange.specs.Located.{isMeasured}
 use Rattle.exchange.specs.Records.{noProfile, profileOf}
 use Rattle.laws.specs.RuleOrder.{linesIn, placeBefore, rulesOf}
 
--- ---- a row and a column, counted from 1, of a file with the table t and n rows
-abbrev pub IsThere : Table → ℕ → ℕ → ℕ → Type 0
-IsThere t n r c = (1 ≤ r) × (r ≤ n) × (1 ≤ c) × (c ≤ length (t .names))
-
+-- ---- the kind of a column, counted from 1, of a file with the table t; its cell judged
 abbrev pub columnKind : Table → ℕ → Kind
 columnKind t c = kindOf (kindAt t c)
 
--- the cell judged, and the millionths that a good decimal writes
 abbrev pub cellVerdict : Table → List ℕ → ℕ → ℕ → Verdict
 cellVerdict t f r c = judge (columnKind t c) (cellText t f r c)
-
-abbrev pub millionthsOf : Verdict → ℤ
-millionthsOf blank = pos 0
-millionthsOf wrong = pos 0
-millionthsOf outOfRange = pos 0
-millionthsOf (good m v d) = signed m v
 
 -- ---- "Refusal numbers", 21 and 22: which calls are refused, and what the others give
 abbrev pub IsFlag : Kind → Type 0
@@ -74,18 +63,18 @@ pub record AskedExactly : Type 0 where
   -- a refused file wins over everything
   pub file : (f : List ℕ) (a b d : ℕ) → outcomeOf f ≡ refused a b d → (r c : ℕ) → Refuses f r c a b d
   -- 21: no such row or column
-  pub absent : (f : List ℕ) (t : Table) (n : ℕ) → outcomeOf f ≡ accepted t n → (r c : ℕ) → (IsThere t n r c → ⊥) → Refuses f r c 21 0 0
-  pub there : (f : List ℕ) (t : Table) (n : ℕ) → outcomeOf f ≡ accepted t n → (r c : ℕ) → IsThere t n r c → Answers f t r c
+  pub absent : (f : List ℕ) (t : Table) (n : ℕ) → outcomeOf f ≡ accepted t n → (r c : ℕ) → isThere t n r c ≡ false → Refuses f r c 21 0 0
+  pub there : (f : List ℕ) (t : Table) (n : ℕ) → outcomeOf f ≡ accepted t n → (r c : ℕ) → isThere t n r c ≡ true → Answers f t r c
 
 -- ---- "Decimals": a measured or DEPTH decimal is missing exactly when it equals -999, in any spelling
 abbrev pub MissingExactly : Type 0
-MissingExactly = (f : List ℕ) (t : Table) (n : ℕ) → outcomeOf f ≡ accepted t n → (r c : ℕ) → IsThere t n r c
+MissingExactly = (f : List ℕ) (t : Table) (n : ℕ) → outcomeOf f ≡ accepted t n → (r c : ℕ) → isThere t n r c ≡ true
     → (columnKind t c ≡ measured) ⊎ (columnKind t c ≡ depth)
     → (readingFor f r c ≡ Missing) ↔ (millionthsOf (cellVerdict t f r c) ≡ negℤ (pos 999000000))
 
 -- -999 is out of range in a LATITUDE or LONGITUDE column, so a reading there is present
 abbrev pub PresentThere : Type 0
-PresentThere = (f : List ℕ) (t : Table) (n : ℕ) → outcomeOf f ≡ accepted t n → (r c : ℕ) → IsThere t n r c
+PresentThere = (f : List ℕ) (t : Table) (n : ℕ) → outcomeOf f ≡ accepted t n → (r c : ℕ) → isThere t n r c ≡ true
     → (columnKind t c ≡ latitude) ⊎ (columnKind t c ≡ longitude)
     → readingFor f r c ≡ Present (millionthsOf (cellVerdict t f r c)) (doubleOf (millionthsOf (cellVerdict t f r c)))
 
