@@ -28,7 +28,8 @@ use Rattle.exchange.specs.declared.Flagged.{Flagged}
 use Rattle.exchange.specs.declared.CellPlace.{CellPlace}
 use Rattle.exchange.specs.Columns.{namesOf}
 use Rattle.exchange.specs.Places.{Table, accepted, outcomeOf}
-use Rattle.exchange.specs.Grid.{lineStart, spanIn, cellSpan}
+use Rattle.exchange.specs.Grid.{spanIn}
+use Rattle.exchange.specs.Inner.Grid.{lineStart, cellSpan}
 use Rattle.exchange.specs.Inner.Top.{sortOf}
 use Rattle.exchange.specs.Inner.Table.{FileRead, TableRead}
 use Rattle.exchange.specs.Answers.{Asked, found, missed, askedBy, askedOf, kindAt, rowCells, cellText, cellPlace, cellBy, cellOf, refusalBy, placeBy, placeFor, readingBy, readingFor, flaggedBy, flaggedOf}

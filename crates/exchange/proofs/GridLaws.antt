@@ -19,7 +19,8 @@ use Rattle.exchange.specs.Columns.{kindOfName, kindsOf}
 use Rattle.exchange.specs.Rows.{rowRules}
 use Rattle.exchange.specs.Places.{Table, accepted, outcomeOf}
 use Rattle.exchange.specs.Inner.Faults.{cellFault, rowFault}
-use Rattle.exchange.specs.Grid.{starts, lineStart, cellSpan}
+use Rattle.exchange.specs.Grid.{starts}
+use Rattle.exchange.specs.Inner.Grid.{lineStart, cellSpan}
 use Rattle.exchange.specs.Profiles.{grid}
 use Rattle.exchange.specs.Inner.Lines.{linesFrom}
 use Rattle.exchange.proofs.RunLaws.{lines-more, lines-cut, line-feed}

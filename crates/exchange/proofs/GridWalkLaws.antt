@@ -15,8 +15,8 @@ use Rattle.text.specs.Cells.{firstPiece, laterPieces, pieces, lineAt, cellAt, c
 use Rattle.text.specs.Inner.Scans.{Stop}
 use Rattle.text.proofs.CellLaws.{cellEnd-parts, pieces-last, pieces-more}
 use Rattle.text.proofs.SpaceLaws.{slice-take}
-use Rattle.exchange.specs.Grid.{starts, lineStart, spanIn, cellSpan}
-use Rattle.exchange.specs.Inner.Grid.{feedsIn, skip, skipped}
+use Rattle.exchange.specs.Grid.{starts, spanIn}
+use Rattle.exchange.specs.Inner.Grid.{lineStart, cellSpan, feedsIn, skip, skipped}
 use Rattle.exchange.proofs.RunLaws.{piece-in, piece-take}
 
 -- ---- skipping line feeds

@@ -16,7 +16,8 @@ use Rattle.text.proofs.SpaceLaws.{span-bytes}
 use Rattle.exchange.specs.declared.cells.Cell.{Cell}
 use Rattle.exchange.specs.declared.Located.{Located}
 use Rattle.exchange.specs.Columns.{namesOf}
-use Rattle.exchange.specs.Grid.{nowhere, spanIn, cellSpan}
+use Rattle.exchange.specs.Grid.{nowhere, spanIn}
+use Rattle.exchange.specs.Inner.Grid.{cellSpan}
 use Rattle.exchange.specs.Inner.Names.{textIn}
 use Rattle.exchange.specs.Located.{locatedBy, locatedOf}
 use Rattle.exchange.specs.Inner.Cells.{CellRead, AskedRead}

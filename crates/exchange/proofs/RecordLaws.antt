@@ -23,7 +23,8 @@ use Rattle.exchange.specs.declared.values.ValueAt.{ValueAt}
 use Rattle.exchange.specs.Faults.{placeIn}
 use Rattle.exchange.specs.Columns.{Sort, bottle, ctd, kindOfName, kindsOf}
 use Rattle.exchange.specs.Places.{Table, accepted, outcomeOf}
-use Rattle.exchange.specs.Grid.{starts, lineStart, spanIn}
+use Rattle.exchange.specs.Grid.{starts, spanIn}
+use Rattle.exchange.specs.Inner.Grid.{lineStart}
 use Rattle.exchange.specs.Profiles.{Key, keyOf, labels, rowsOf}
 use Rattle.exchange.specs.Answers.{rowsIn, rowCells}
 use Rattle.exchange.specs.Records.{Value, given, absent, columnValue, valueBy, stationValue, labelsBy, profileRows, numberIn, castTime, noProfile, recordOf, profileBy, profileOf, Stationed, stands, refusedBy, stationedAt, stationedIn, stationedBy, stationedOf, stationPlace, stationRefusal, noPlace, stationAnswer}

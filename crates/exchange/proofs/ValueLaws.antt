@@ -24,7 +24,7 @@ use Rattle.exchange.specs.declared.values.ValueAt.{ValueAt}
 use Rattle.exchange.specs.Faults.{placeIn}
 use Rattle.exchange.specs.Headers.{Header, headerOf, rawName, nameOf, valueOf}
 use Rattle.exchange.specs.Columns.{namesOf}
-use Rattle.exchange.specs.Grid.{cellSpan}
+use Rattle.exchange.specs.Inner.Grid.{cellSpan}
 use Rattle.exchange.specs.Records.{Value, given, absent, headerPlace, headerValue, numberIn, timeIn, castTime}
 use Rattle.exchange.specs.Inner.Names.{textIn, namesAt}
 use Rattle.exchange.specs.Inner.Headers.{Parted, LineStands, HeaderLines, none, more}

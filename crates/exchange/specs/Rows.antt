@@ -21,7 +21,7 @@ cellRules c (k ∷ ks) (t ∷ ts) = kindFault (judge (kindOf k) t) c ∷ cellRul
 unfoldable pub rowRules : List ℕ → List (List ℕ) → List Fault
 rowRules ks ts = unless (eqb (length ts) (length ks)) 15 1 ∷ cellRules 1 ks ts
 
--- what binds the good cells of a row together, the columns being of these names: nothing yet. A rule on several cells of a row has its place here
+-- what binds the good cells of a row together, the columns being of these names: nothing in document 01; request [5] of document 02 has its rule here
 unfoldable pub boundRules : List (List ℕ) → List (List ℕ) → List Fault
 boundRules ns ts = []
 

@@ -6,8 +6,7 @@ ghost use lib.ListN.{length, take, drop};
 ghost use lib.Dec.{eqb};
 ghost use Rattle.text.specs.Cells.{lineAt, pieces, cellEnd};
 ghost use Rattle.text.specs.Inner.Scans.{Stop};
-ghost use Rattle.exchange.specs.Grid.{lineStart, cellSpan};
-ghost use Rattle.exchange.specs.Inner.Grid.{feedsIn, skipped};
+ghost use Rattle.exchange.specs.Inner.Grid.{lineStart, cellSpan, feedsIn, skipped};
 use text::Span;
 
 fn is_feed(b: u8) -> usize

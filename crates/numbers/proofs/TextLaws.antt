@@ -1,4 +1,4 @@
--- The text of a number and of a flag: plain bytes, set at the right of a cell, and judged as the number it was made of.
+-- The text of a number and of a digit: plain bytes, set at the right of a cell, and judged as the number it was made of, exactly where that can be written.
 use Prim.Native.Nat.{ℕ, zero, suc, _+_, _-_, _*_, _/_, _%_, _^_, _≤_, _<_}
 use mathlib.Core.Path.{_≡_, refl, sym, ap, _∙_}
 use mathlib.Core.List.{List, [], _∷_, _++_}
@@ -107,7 +107,7 @@ pub flag-plain : (v w : ℕ) → v ≤ 9 → every isPlain (atRight w (flagText 
 flag-plain v w h = atRight-plain w (flagText v) (every-one isPlain (48 + v) (digit-plain (48 + v) (flag-digit v h)))
 
 -- ---- a number judged
--- what a correction may write
+-- what can be written without loss
 pub record Writable (m : ℤ) (d : ℕ) : Type 0 where
   pub few : d ≤ 6
   pub small : size m < 10 ^ 15

@@ -8,7 +8,7 @@ use Rattle.text.specs.Inner.Scans.{Stop}
 use Rattle.exchange.specs.declared.cells.Cell.{Cell}
 use Rattle.exchange.specs.Columns.{namesOf}
 use Rattle.exchange.specs.Places.{Table}
-use Rattle.exchange.specs.Grid.{cellSpan}
+use Rattle.exchange.specs.Inner.Grid.{cellSpan}
 use Rattle.exchange.specs.Answers.{found, missed, askedOf, kindAt, cellText, cellPlace}
 use Rattle.exchange.specs.Located.{flagColumn}
 

@@ -17,7 +17,8 @@ use Rattle.exchange.specs.Faults.{placeIn}
 use Rattle.exchange.specs.Headers.{Header}
 use Rattle.exchange.specs.Columns.{ctd, namesOf}
 use Rattle.exchange.specs.Places.{Table, accepted, outcomeOf}
-use Rattle.exchange.specs.Grid.{starts, cellSpan}
+use Rattle.exchange.specs.Grid.{starts}
+use Rattle.exchange.specs.Inner.Grid.{cellSpan}
 use Rattle.exchange.specs.Answers.{rowCells}
 use Rattle.exchange.specs.Records.{Value, given, absent, headerValue, headersLine, stationValue, profileRows, numberIn, castTime, noProfile, recordOf, profileOf, refusedBy, stationedAt, stationedOf}
 use Rattle.exchange.specs.Inner.Headers.{HeaderLines}

@@ -5,7 +5,7 @@ use native.Mathlib.Omega.{arith}
 use lib.ListN.{getD}
 use borrow.Author.Needs.{needs}
 use Rattle.text.proofs.CellLaws.{stop-moved, stop-short}
-use Rattle.exchange.specs.Grid.{cellSpan}
+use Rattle.exchange.specs.Inner.Grid.{cellSpan}
 use Rattle.exchange.proofs.GridWalkLaws.{span-first, span-none, span-more}
 use Rattle.exchange.proofs.grid.cell_span.Statement.{statement}
 use Rattle.exchange.proofs.grid.cell_span.Tie as tie
