@@ -54,7 +54,7 @@ pub fn correct(file: &mut [u8], order: Order) -> Answer
 }
 
 // Reads one line of a correction list, with its line feed.
-pub fn read_line(line: &[u8]) -> ListLine
+pub fn read_list_line(line: &[u8]) -> ListLine
     ensures { λ r. ⌜ r ≡ lineRead (now (line .entry)) ⌝ }
 {
     if !list_lines::is_one_line(line) {
@@ -67,7 +67,7 @@ pub fn read_line(line: &[u8]) -> ListLine
 pub fn name_in_line(line: &[u8]) -> &[u8]
     ensures { λ r. ⌜ IsPart (line .entry) r (lineRead (now (line .entry)) .name) ⌝ }
 {
-    let l = read_line(line);
+    let l = read_list_line(line);
     let start = l.name.start;
     let n = l.name.len;
     &line[start..start + n]

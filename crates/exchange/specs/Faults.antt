@@ -3,7 +3,7 @@ use Prim.Native.Nat.{ℕ, suc}
 use mathlib.Core.List.{List, [], _∷_}
 use mathlib.Core.Bool.{Bool, true, false, cond, _||_, _&&_}
 use Rattle.text.specs.Bytes.{equal}
-use Rattle.text.specs.Verdicts.{Verdict, blank, wrong, outOfRange, good}
+use Rattle.text.specs.Verdicts.{Verdict, blank, wrong, outOfRange, good, numberOf}
 
 pub data Fault : Type 0 where
   clean : Fault
@@ -25,9 +25,9 @@ unless b n c = cond b clean (breaks n c)
 
 -- rules 17, 16 and 18 of a text judged by its kind
 abbrev pub kindFault : Verdict → ℕ → Fault
-kindFault blank c = breaks 17 c
-kindFault wrong c = breaks 16 c
-kindFault outOfRange c = breaks 18 c
+kindFault blank c = breaks (numberOf blank) c
+kindFault wrong c = breaks (numberOf wrong) c
+kindFault outOfRange c = breaks (numberOf outOfRange) c
 kindFault (good m v d) c = clean
 
 -- a name is one of a list

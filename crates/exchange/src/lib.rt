@@ -127,18 +127,25 @@ pub fn check(file: &[u8]) -> Checked
     }
 }
 
+// A refusal, with the empty place at the file's start.
+fn no_place(number: u64, line: u64, column: u64) -> CellPlace
+    ensures { λ r. ⌜ r ≡ noPlace number line column ⌝ }
+{
+    CellPlace {
+        number,
+        line,
+        column,
+        place: Span { start: 0, len: 0 },
+    }
+}
+
 // The place of a trimmed cell.
 pub fn cell_place(file: &[u8], row: u64, column: u64) -> CellPlace
     ensures { λ r. ⌜ r ≡ placeFor (now (file .entry)) row column ⌝ }
 {
     let a = cells::find_cell(file, row, column);
     if a.number != 0 {
-        return CellPlace {
-            number: a.number,
-            line: a.line,
-            column: a.column,
-            place: Span { start: 0, len: 0 },
-        };
+        return no_place(a.number, a.line, a.column);
     }
     CellPlace {
         number: 0,
@@ -266,17 +273,6 @@ pub fn profile(file: &[u8], k: u64) -> ProfileRecord
         rows: p.rows,
         castno: values::number_in(file, castno, kinds::CASTNO),
         date: values::number_in(file, date, kinds::DATE),
-    }
-}
-
-fn no_place(number: u64, line: u64, column: u64) -> CellPlace
-    ensures { λ r. ⌜ r ≡ noPlace number line column ⌝ }
-{
-    CellPlace {
-        number,
-        line,
-        column,
-        place: Span { start: 0, len: 0 },
     }
 }
 

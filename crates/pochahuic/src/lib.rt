@@ -228,7 +228,7 @@ pub extern "C" fn pochahuic_list_line(line: &[u8], millionths: &mut i64, out: &m
     ensures { λ _. ⌜ now (millionths .exit) ≡ lineRead (now (line .entry)) .millionths ⌝ }
     ensures { λ _. ⌜ now (out .exit) ≡ lineNumbers (lineRead (now (line .entry))) ⌝ }
 {
-    let l = correction::read_line(line);
+    let l = correction::read_list_line(line);
     let m = l.millionths;
     *millionths = m;
     *out = [

@@ -13,6 +13,6 @@ fn main() {
     let mut input = [0u8; 65537];
     let mut room = [0u8; 163840];
     let n = io::read_full(STDIN_FILENO, &mut input);
-    let length = listing::report(&input[..n], &mut room);
+    let length = report_text::report(&input[..n], &mut room);
     print(&room, length);
 }

@@ -8,8 +8,8 @@ use correction::Answer;
 use correction::Order;
 use exchange::CastTime;
 use exchange::FileKind;
-use listing::put;
-use listing::put_number;
+use report_text::put;
+use report_text::put_number;
 use text::Reading;
 
 // A field is a space, then a number.
@@ -167,7 +167,7 @@ fn answer_correct(
 }
 
 fn answer_line(line: &[u8], out: &mut [u8], from: usize) -> usize {
-    let l = correction::read_line(line);
+    let l = correction::read_list_line(line);
     if l.number != 0 {
         return put_refused(out, from, l.number, 0, 0);
     }
@@ -188,7 +188,7 @@ fn answer_report(
     out: &mut [u8],
     from: usize,
 ) -> usize {
-    let n = listing::report(file, page);
+    let n = report_text::report(file, page);
     let a = put(out, from, b"report");
     let b = hex_field(out, a, crc_of(table, page, n) as u64, 8);
     field(out, b, n as u64)

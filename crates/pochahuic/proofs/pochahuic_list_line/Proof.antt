@@ -5,11 +5,11 @@ use borrow.Author.Needs.{needs}
 use Rattle.pochahuic.proofs.pochahuic_list_line.Statement.{statement}
 use Rattle.pochahuic.proofs.pochahuic_list_line.Tie as tie
 
-read-line-requires : tie.Need-read-line-requires
-read-line-requires c κs = search needs
+read-list-line-requires : tie.Need-read-list-line-requires
+read-list-line-requires c κs = search needs
 
 returns : tie.Need-returns
-returns c = let a = c .before .before in line-answered (a .read-line .result) _ (a .read-line .ensures) _ (toZ-ofZ w64 (a .read-line .result .millionths) (record { sfits = c .before .struct-told .given .1 .1 .1 .0 .1 }))
+returns c = let a = c .before .before in line-answered (a .read-list-line .result) _ (a .read-list-line .ensures) _ (toZ-ofZ w64 (a .read-list-line .result .millionths) (record { sfits = c .before .struct-told .given .1 .1 .1 .0 .1 }))
 
 pub pochahuic-list-line-spec : {M : Type 1} → statement M
-pochahuic-list-line-spec = tie.close (tie.spec read-line-requires returns)
+pochahuic-list-line-spec = tie.close (tie.spec read-list-line-requires returns)

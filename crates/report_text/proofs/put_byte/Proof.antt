@@ -1,0 +1,30 @@
+use borrow.Author.Needs.{needs}
+use native.Mathlib.Omega.{arith}
+use Rattle.report_text.proofs.PageLaws.{byte-put, byte-left}
+use Rattle.report_text.proofs.put_byte.Statement.{statement}
+use Rattle.report_text.proofs.put_byte.Tie as tie
+use Rattle.report_text.proofs.put_byte.Reads as reads
+use Rattle.report_text.proofs.put_byte.Lts as lts
+
+-- src/lib.rt:13:9
+slice-write-room : tie.Need-slice-write-room
+slice-write-room c = search needs
+
+-- src/lib.rt:14:16
+add-result : tie.Need-add-result
+add-result c = search needs
+
+-- src/lib.rt:14:9
+same-length : tie.Need-same-length
+same-length c = search needs
+
+-- src/lib.rt:14:9
+returns : tie.Need-returns
+returns c = byte-put _ _ _ (c .if1 .taken)
+
+-- src/lib.rt:9:1
+returns-2 : tie.Need-returns-2
+returns-2 c = byte-left _ _ _ (c .if1 .left)
+
+pub put-byte-spec : {M : Type 1} → statement M
+put-byte-spec = tie.close (tie.spec slice-write-room add-result same-length returns returns-2)
