@@ -6,7 +6,7 @@ use mathlib.Core.Bool.{Bool, cond, not, _&&_}
 use lib.ListN.{length, getD}
 use lib.Dec.{eqb}
 use lib.IntN.{pos}
-use Rattle.text.specs.Bytes.{isSpace, every}
+use Rattle.text.specs.Bytes.{lineFeed, tab, isSpace, every}
 use Rattle.text.specs.Cells.{firstPiece, pieces}
 use Rattle.text.specs.Spaces.{trim}
 use Rattle.text.specs.Names.{isName}
@@ -53,7 +53,7 @@ byFields (r ∷ (n ∷ (d ∷ (g ∷ (x ∷ xs))))) = malformed
 
 -- one line feed, and it is the last byte; no spaces
 abbrev pub isOneLine : List ℕ → Bool
-isOneLine x = eqb (length (firstPiece 10 x) + 1) (length x) && every (λ (b : ℕ). not (isSpace b)) x
+isOneLine x = eqb (length (firstPiece lineFeed x) + 1) (length x) && every (λ (b : ℕ). not (isSpace b)) x
 
 unfoldable pub lineRead : List ℕ → ListLine
-lineRead x = cond (isOneLine x) (byFields (pieces 9 (firstPiece 10 x))) malformed
+lineRead x = cond (isOneLine x) (byFields (pieces tab (firstPiece lineFeed x))) malformed

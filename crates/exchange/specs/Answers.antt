@@ -4,6 +4,7 @@ use mathlib.Core.List.{List, [], _∷_, map}
 use mathlib.Core.Bool.{Bool, cond, _&&_, _||_}
 use lib.ListN.{length, getD, take, drop}
 use lib.Dec.{eqb, leb}
+use Rattle.text.specs.Bytes.{lineFeed}
 use Rattle.text.specs.declared.Span.{Span}
 use Rattle.text.specs.declared.Reading.{Reading}
 use Rattle.text.specs.declared.Reading.the-variants.{Refused}
@@ -88,7 +89,7 @@ abbrev pub cellText : Table → List ℕ → ℕ → ℕ → List ℕ
 cellText t f r c = getD (rowCells t f r) (c - 1) []
 
 abbrev pub cellPlace : Table → List ℕ → ℕ → ℕ → Span
-cellPlace t f r c = spanIn (starts (map length (pieces 10 f)) (t .line + (r - 1))) (rowCells t f r) (c - 1)
+cellPlace t f r c = spanIn (starts (map length (pieces lineFeed f)) (t .line + (r - 1))) (rowCells t f r) (c - 1)
 
 -- a cell handed out: the trimmed part; refused: the empty part at the file's start
 abbrev pub trimmedPlace : List ℕ → Span → Span

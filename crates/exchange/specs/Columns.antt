@@ -5,7 +5,7 @@ use mathlib.Core.List.{List, [], _∷_, _++_, map}
 use mathlib.Core.Bool.{Bool, cond, not, _&&_, _||_}
 use lib.ListN.{length, take}
 use lib.Dec.{ltb}
-use Rattle.text.specs.Bytes.{bytes, equal}
+use Rattle.text.specs.Bytes.{comma, bytes, equal}
 use Rattle.text.specs.Cells.{pieces}
 use Rattle.text.specs.Spaces.{trim}
 use Rattle.text.specs.Names.{isName, parameterLength, beginsCtd}
@@ -50,11 +50,11 @@ requiredNames ctd = bytes "CTDPRS" ∷ []
 
 -- the names of the line
 abbrev pub namesOf : List ℕ → List (List ℕ)
-namesOf x = map trim (pieces 44 x)
+namesOf x = map trim (pieces comma x)
 
 -- the names line of a bottle or a CTD file
 unfoldable pub namesLineRules : Sort → List ℕ → List Fault
-namesLineRules k x = nameRules 1 [] (pieces 44 x) ++ flagRules 1 (namesOf x) (pieces 44 x) ++ unless (hasAll (requiredNames k) (namesOf x)) 13 1 ∷ []
+namesLineRules k x = nameRules 1 [] (pieces comma x) ++ flagRules 1 (namesOf x) (pieces comma x) ++ unless (hasAll (requiredNames k) (namesOf x)) 13 1 ∷ []
 
 -- the kind of the column of a name, as the code's number
 unfoldable pub kindOfName : List ℕ → ℕ

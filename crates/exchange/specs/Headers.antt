@@ -15,9 +15,13 @@ use Rattle.text.specs.Judge.{judge, wholeOf, unlessBlank}
 use Rattle.text.specs.Catalogue.{names, kinds, kindIn}
 use Rattle.exchange.specs.Faults.{Fault, unless, kindFault, member, hasAll}
 
+-- the byte =
+abbrev pub equalsSign : ℕ
+equalsSign = 61
+
 -- what stands before the first =, with its spaces and without; what stands after it, with its spaces
 abbrev pub rawName : List ℕ → List ℕ
-rawName x = firstPiece 61 x
+rawName x = firstPiece equalsSign x
 
 abbrev pub nameOf : List ℕ → List ℕ
 nameOf x = trim (rawName x)

@@ -5,7 +5,7 @@ use mathlib.Core.List.{List, [], _∷_, _++_}
 use mathlib.Core.Bool.{Bool, true, false, cond, not, _||_}
 use lib.ListN.{length, take}
 use lib.Dec.{eqb}
-use Rattle.text.specs.Bytes.{bytes, equal}
+use Rattle.text.specs.Bytes.{comma, lineFeed, bytes, equal}
 use Rattle.text.specs.Cells.{firstPiece, pieces}
 use Rattle.exchange.specs.Faults.{Fault, clean, breaks, firstOf, unless}
 use Rattle.exchange.specs.LineRules.{lineRules, unendedRules}
@@ -37,17 +37,17 @@ abbrev pub isMark : List ℕ → Bool
 isMark x = equal (take 3 x) (0xef ∷ 0xbb ∷ 0xbf ∷ [])
 
 abbrev pub isBottle : List ℕ → Bool
-isBottle x = equal (firstPiece 44 x) (bytes "BOTTLE")
+isBottle x = equal (firstPiece comma x) (bytes "BOTTLE")
 
 abbrev pub isCtd : List ℕ → Bool
-isCtd x = equal (firstPiece 44 x) (bytes "CTD")
+isCtd x = equal (firstPiece comma x) (bytes "CTD")
 
 unfoldable pub firstLineRules : List ℕ → List Fault
 firstLineRules x = unless (not (isMark x)) 6 1 ∷ unless (isBottle x || isCtd x) 7 1 ∷ []
 
 -- ---- comment lines, which start with #; the first line that is none
 abbrev pub isComment : List ℕ → Bool
-isComment x = equal (take 1 x) (35 ∷ [])
+isComment x = equal (take 1 x) (bytes "#")
 
 abbrev pub topRules : Sort → List ℕ → List Fault
 topRules bottle x = namesLineRules bottle x
@@ -59,8 +59,8 @@ rulesAt first x = lineRules true x ++ firstLineRules x
 rulesAt (comments k) x = cond (isComment x) (lineRules false x) (lineRules true x ++ topRules k x)
 rulesAt (headers due hs) x = lineRules true x ++ (headerRules (namesIn hs) x ++ lastHeaderRules (due - 1) (hs ++ headerOf x ∷ []))
 rulesAt (names k hs) x = lineRules true x ++ namesLineRules k x
-rulesAt (units k hs ns) x = lineRules true x ++ unless (eqb (length (pieces 44 x)) (length ns)) 15 1 ∷ []
-rulesAt (rows t n) x = lineRules true x ++ cond (isEndData x) (unless (not (eqb n 0)) 19 1 ∷ []) (dataLineRules n (t .names) (pieces 44 x))
+rulesAt (units k hs ns) x = lineRules true x ++ unless (eqb (length (pieces comma x)) (length ns)) 15 1 ∷ []
+rulesAt (rows t n) x = lineRules true x ++ cond (isEndData x) (unless (not (eqb n 0)) 19 1 ∷ []) (dataLineRules n (t .names) (pieces comma x))
 rulesAt (after t n) x = lineRules false x
 rulesAt (stopped a b c) x = []
 
@@ -133,4 +133,4 @@ run l p (x ∷ (y ∷ ys)) = run (l + 1) (step l p x) (y ∷ ys)
 
 -- the check of a file
 unfoldable pub outcomeOf : List ℕ → Outcome
-outcomeOf f = run 1 first (pieces 10 f)
+outcomeOf f = run 1 first (pieces lineFeed f)

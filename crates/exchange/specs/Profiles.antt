@@ -4,7 +4,7 @@ use Prim.Native.Nat.{ℕ, _+_}
 use mathlib.Core.List.{List, [], _∷_, map}
 use mathlib.Core.Bool.{Bool, cond, _&&_}
 use lib.Dec.{eqb}
-use Rattle.text.specs.Bytes.{equal}
+use Rattle.text.specs.Bytes.{comma, lineFeed, equal}
 use Rattle.text.specs.Cells.{pieces}
 use Rattle.text.specs.Spaces.{trim}
 use Rattle.text.specs.Kinds.{expocode, stnnbr, castno, kindOf, codeOf}
@@ -14,7 +14,7 @@ use Rattle.text.specs.Rows.{missingIn}
 
 -- the lines of a file as lists of cells
 abbrev pub grid : List ℕ → List (List (List ℕ))
-grid f = map (pieces 44) (pieces 10 f)
+grid f = map (pieces comma) (pieces lineFeed f)
 
 -- a row's missing readings, by its columns' kinds
 unfoldable pub missingInRow : List ℕ → List (List ℕ) → ℕ

@@ -6,7 +6,7 @@ use mathlib.Core.Bool.{cond}
 use lib.ListN.{length, getD}
 use lib.Dec.{ltb}
 use Rattle.text.specs.declared.Span.{Span}
-use Rattle.text.specs.Bytes.{bytes, equal}
+use Rattle.text.specs.Bytes.{lineFeed, bytes, equal}
 use Rattle.text.specs.Cells.{pieces}
 use Rattle.text.specs.Verdicts.{Verdict, blank, wrong, outOfRange, good, sizeOf}
 use Rattle.text.specs.Kinds.{Kind, castno, date, time}
@@ -31,8 +31,8 @@ pub data Value : Type 0 where
 -- the value of the header on a line of the file, the lines counted from 0: what stands after its =
 abbrev pub headerPlace : List ℕ → ℕ → Span
 headerPlace f l = record {
-  start = starts (map length (pieces 10 f)) l + length (rawName (getD (pieces 10 f) l [])) + 1;
-  len = length (valueOf (getD (pieces 10 f) l []));
+  start = starts (map length (pieces lineFeed f)) l + length (rawName (getD (pieces lineFeed f) l [])) + 1;
+  len = length (valueOf (getD (pieces lineFeed f) l []));
 }
 
 -- among headers, the first of which stands on line l

@@ -5,6 +5,7 @@ use mathlib.Core.List.{List, [], _∷_}
 use mathlib.Core.Bool.{cond}
 use lib.ListN.{length, getD, take}
 use lib.Dec.{ltb}
+use Rattle.text.specs.Bytes.{lineFeed}
 use Rattle.text.specs.Cells.{pieces}
 use Rattle.exchange.specs.Faults.{Fault}
 use Rattle.exchange.specs.Places.{Place, first, rulesAt, endRules, nextPlace}
@@ -16,13 +17,13 @@ walk l p (x ∷ xs) = walk (l + 1) (nextPlace l p x) xs
 
 -- ---- line l of a file, from 1: the place that the lines before it lead to, its bytes, and its rules; the last is what stands after the last line feed
 abbrev pub linesIn : List ℕ → ℕ
-linesIn f = length (pieces 10 f)
+linesIn f = length (pieces lineFeed f)
 
 unfoldable pub placeBefore : List ℕ → ℕ → Place
-placeBefore f l = walk 1 first (take (l - 1) (pieces 10 f))
+placeBefore f l = walk 1 first (take (l - 1) (pieces lineFeed f))
 
 abbrev pub lineIn : List ℕ → ℕ → List ℕ
-lineIn f l = getD (pieces 10 f) (l - 1) []
+lineIn f l = getD (pieces lineFeed f) (l - 1) []
 
 unfoldable pub rulesOf : List ℕ → ℕ → List Fault
 rulesOf f l = cond (ltb l (linesIn f)) (rulesAt (placeBefore f l) (lineIn f l)) (endRules (placeBefore f l) (lineIn f l))

@@ -2,6 +2,7 @@
 use Prim.Native.Nat.{ℕ}
 use mathlib.Core.List.{List, [], _∷_, _++_, map}
 use lib.ListN.{set}
+use Rattle.text.specs.Bytes.{comma, lineFeed}
 
 -- pieces put together again, one byte c between each two; and lines of cells put together to a file
 unfoldable pub joinLater : ℕ → List (List ℕ) → List ℕ
@@ -13,7 +14,7 @@ join c [] = []
 join c (p ∷ ps) = p ++ joinLater c ps
 
 abbrev pub ungrid : List (List (List ℕ)) → List ℕ
-ungrid g = join 10 (map (join 44) g)
+ungrid g = join lineFeed (map (join comma) g)
 
 -- a text for the cell of a column, from 0; such texts written into the cells of a row, one after the other
 pub record Write : Type 0 where

@@ -3,6 +3,7 @@ use Prim.Native.Nat.{ℕ, _+_, _-_, _≤_, _<_}
 use mathlib.Core.Path.{_≡_}
 use mathlib.Core.List.{List}
 use lib.ListN.{length}
+use Rattle.text.specs.Bytes.{comma}
 use Rattle.text.specs.Cells.{lineAt, cellAt}
 use Rattle.text.specs.Inner.Scans.{Stop}
 use Rattle.exchange.specs.declared.cells.Cell.{Cell}
@@ -18,11 +19,11 @@ pub record CellRead (s : List ℕ) (r c : ℕ) (t : Table) (x : Cell) : Type 0 w
   pub kind : x .kind ≡ kindAt t c
   pub start : x .start ≡ cellPlace t s r c .start
   pub len : x .len ≡ cellPlace t s r c .len
-  pub stop : Stop 44 s (x .start) (x .feed)
-  pub text : cellAt 44 s (x .start) ≡ cellText t s r c
+  pub stop : Stop comma s (x .start) (x .feed)
+  pub text : cellAt comma s (x .start) ≡ cellText t s r c
   pub room : x .start + x .len ≤ length s
   pub within : (1 ≤ c) × (c ≤ length (t .names))
-  pub row : Stop 44 s (x .at) (x .feed)
+  pub row : Stop comma s (x .at) (x .feed)
   pub cells : (k : ℕ) → cellSpan s (x .at) (k - 1) ≡ cellPlace t s r k
   pub flag : x .flag ≡ flagColumn t c
   pub names : t .names ≡ namesOf (lineAt s (x .names))

@@ -4,6 +4,7 @@ use mathlib.Core.Path.{_≡_}
 use mathlib.Core.List.{List, map}
 use mathlib.Core.Bool.{cond}
 use lib.ListN.{length, getD, take}
+use Rattle.text.specs.Bytes.{comma}
 use Rattle.text.specs.Cells.{lineAt, pieces}
 use Rattle.exchange.specs.declared.columns.Cells.{Cells}
 use Rattle.exchange.specs.declared.columns.Columns.{Columns}
@@ -28,15 +29,15 @@ pub record Placed (s : List ℕ) (at n : ℕ) (begins ends : List ℕ) : Type 0 
   pub wide : length begins ≡ 256
   pub broad : length ends ≡ 256
   pub names : namesAt s n begins ends ≡ take n (namesOf (lineAt s at))
-  pub begin : (k : ℕ) → k < n → getD begins k 0 ≡ startOf at (pieces 44 (lineAt s at)) k
+  pub begin : (k : ℕ) → k < n → getD begins k 0 ≡ startOf at (pieces comma (lineAt s at)) k
   pub inside : (k : ℕ) → k < n → getD begins k 0 < length s
 
 -- the cells of the line, 256 at the most
 pub record CellsFound (s : List ℕ) (at : ℕ) (r : Cells) : Type 0 where
   pub placed : Placed s at (r .count) (r .starts) (r .ends)
-  pub all : r .over ≡ 0 → r .count ≡ length (pieces 44 (lineAt s at))
+  pub all : r .over ≡ 0 → r .count ≡ length (pieces comma (lineAt s at))
   pub more : (r .over ≡ 0 → ⊥)
-      → (r .count ≡ 256) × (256 < length (pieces 44 (lineAt s at))) × (r .over ≡ startOf at (pieces 44 (lineAt s at)) 256) × (r .over < length s)
+      → (r .count ≡ 256) × (256 < length (pieces comma (lineAt s at))) × (r .over ≡ startOf at (pieces comma (lineAt s at)) 256) × (r .over < length s)
 
 -- the place of a flag column's parameter among the names, which is no flag column; their number where there is none
 unfoldable pub parameterPlace : List ℕ → List (List ℕ) → ℕ
@@ -44,7 +45,7 @@ parameterPlace p ns = cond (isFlag p) (length ns) (placeIn p ns)
 
 -- rule 12 of the names line x, and its columns
 pub record KindsRead (x : List ℕ) (r : Columns) : Type 0 where
-  pub fault : asFault (r .number) (r .column) ≡ flagFault 1 (namesOf x) (pieces 44 x)
+  pub fault : asFault (r .number) (r .column) ≡ flagFault 1 (namesOf x) (pieces comma x)
   pub many : r .number ≡ 0 → r .count ≡ length (namesOf x)
   pub kinds : r .number ≡ 0 → take (r .count) (r .kinds) ≡ kindsOf (namesOf x)
   pub flags : r .number ≡ 0 → take (r .count) (r .flags) ≡ flagsOf (namesOf x)

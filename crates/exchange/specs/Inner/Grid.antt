@@ -4,17 +4,18 @@ use mathlib.Core.List.{List, [], _∷_, map}
 use mathlib.Core.Bool.{cond}
 use lib.ListN.{length, drop}
 use lib.Dec.{eqb, ltb}
+use Rattle.text.specs.Bytes.{comma, lineFeed}
 use Rattle.text.specs.declared.Span.{Span}
 use Rattle.text.specs.Cells.{lineAt, pieces}
 use Rattle.exchange.specs.Grid.{starts, spanIn}
 
 -- where the line starts that is k lines after the one that goes on at i; the end of s where there are not so many
 unfoldable pub lineStart : List ℕ → ℕ → ℕ → ℕ
-lineStart s i k = cond (ltb k (length (pieces 10 (drop i s)))) (i + starts (map length (pieces 10 (drop i s))) k) (length s)
+lineStart s i k = cond (ltb k (length (pieces lineFeed (drop i s)))) (i + starts (map length (pieces lineFeed (drop i s))) k) (length s)
 
 -- the place of cell k, from 0, of the line that starts at i
 abbrev pub cellSpan : List ℕ → ℕ → ℕ → Span
-cellSpan s i k = spanIn i (pieces 44 (lineAt s i)) k
+cellSpan s i k = spanIn i (pieces comma (lineAt s i)) k
 
 -- how many line feeds a list has
 unfoldable pub feedsIn : List ℕ → ℕ

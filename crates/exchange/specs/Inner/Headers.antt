@@ -4,6 +4,7 @@ use mathlib.Core.Path.{_≡_}
 use mathlib.Core.Bool.{true}
 use mathlib.Core.List.{List, [], _∷_, map}
 use lib.ListN.{length, getD}
+use Rattle.text.specs.Bytes.{lineFeed}
 use Rattle.text.specs.Cells.{lineAt, pieces}
 use Rattle.exchange.specs.declared.headers.Header.{Header}
 use Rattle.exchange.specs.declared.headers.Headers.{Headers}
@@ -64,8 +65,8 @@ pub record HeadersRead (s : List ℕ) (i l : ℕ) (r : Headers) : Type 0 where
 
 -- line l, counted from 0, stands at i
 pub record LineStands (s : List ℕ) (l i : ℕ) : Type 0 where
-  pub place : i ≡ starts (map length (pieces 10 s)) l
-  pub text : getD (pieces 10 s) l [] ≡ lineAt s i
+  pub place : i ≡ starts (map length (pieces lineFeed s)) l
+  pub text : getD (pieces lineFeed s) l [] ≡ lineAt s i
 
 -- the headers hs stand from place i, line l, up to the place end
 pub data HeaderLines (s : List ℕ) (end : ℕ) : ℕ → ℕ → List FileHeader → Type 0 where

@@ -5,6 +5,7 @@ use mathlib.Core.List.{List}
 use mathlib.Core.Bool.{Bool, cond}
 use lib.ListN.{length, drop}
 use lib.Dec.{ltb}
+use Rattle.text.specs.Bytes.{lineFeed}
 use Rattle.text.specs.Cells.{lineAt, pieces}
 use Rattle.text.specs.Inner.Scans.{Scan}
 use Rattle.text.proofs.LineLaws.{isPlain}
@@ -14,11 +15,11 @@ use Rattle.exchange.specs.Inner.Faults.{lineFault, unendedFault}
 
 -- the lines from place i on
 abbrev pub linesFrom : List ℕ → ℕ → List (List ℕ)
-linesFrom s i = pieces 10 (drop i s)
+linesFrom s i = pieces lineFeed (drop i s)
 
 -- line l, from 1, starts at i
 abbrev pub StartsAt : List ℕ → ℕ → ℕ → Type 0
-StartsAt s l i = linesFrom s i ≡ drop (l - 1) (pieces 10 s)
+StartsAt s l i = linesFrom s i ≡ drop (l - 1) (pieces lineFeed s)
 
 -- rules 1 to 5 of the line that starts at i, which may lack its line feed
 unfoldable pub lineFaultAt : Bool → List ℕ → ℕ → Fault

@@ -5,6 +5,7 @@ use mathlib.Core.List.{List, map}
 use mathlib.Core.Bool.{Bool, cond}
 use lib.ListN.{length, getD}
 use lib.Dec.{eqb}
+use Rattle.text.specs.Bytes.{comma}
 use Rattle.text.specs.Cells.{lineAt}
 use Rattle.text.specs.Inner.Scans.{Stop}
 use Rattle.exchange.specs.declared.profiles.Run.{Run}
@@ -16,7 +17,7 @@ use Rattle.exchange.specs.Inner.Rows.{lineCells, rowsFrom}
 -- from place i on stand n data lines that keep their rules
 pub data RowLines (s ks : List ℕ) : ℕ → ℕ → Type 0 where
   none : {i : ℕ} → RowLines s ks i 0
-  more : {i n : ℕ} → Stop 44 s i (i + length (lineAt s i)) → rowFault ks (lineCells s i) ≡ clean → RowLines s ks (i + length (lineAt s i) + 1) n → RowLines s ks i (suc n)
+  more : {i n : ℕ} → Stop comma s i (i + length (lineAt s i)) → rowFault ks (lineCells s i) ≡ clean → RowLines s ks (i + length (lineAt s i) + 1) n → RowLines s ks i (suc n)
 
 -- a run with a row noted
 abbrev pub withNoted : Run → ℕ → Bool → Run

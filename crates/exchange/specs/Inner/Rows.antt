@@ -5,6 +5,7 @@ use mathlib.Core.List.{List, _∷_, map}
 use mathlib.Core.Bool.{true, false, cond, _&&_}
 use lib.ListN.{length, take}
 use lib.Dec.{ltb}
+use Rattle.text.specs.Bytes.{comma}
 use Rattle.text.specs.declared.Span.{Span}
 use Rattle.text.specs.declared.Keys.{Keys}
 use Rattle.text.specs.Cells.{lineAt, pieces}
@@ -36,7 +37,7 @@ rowRefused at number = record { at = at; number = number; missing = 0; keys = no
 
 -- the cells of the line that starts at i
 abbrev pub lineCells : List ℕ → ℕ → List (List ℕ)
-lineCells s i = pieces 44 (lineAt s i)
+lineCells s i = pieces comma (lineAt s i)
 
 pub record RowRead (s ks : List ℕ) (i : ℕ) (r : Row) : Type 0 where
   pub fault : asFault (r .number) (r .at - i + 1) ≡ rowFault ks (lineCells s i)
@@ -109,7 +110,7 @@ pub record LineRead (s ks : List ℕ) (d r : Data) : Type 0 where
 
 -- ---- the data lines from place i on, by the columns' kinds
 abbrev pub rowsFrom : List ℕ → ℕ → ℕ → List (List (List ℕ))
-rowsFrom s i n = take n (map (pieces 44) (linesFrom s i))
+rowsFrom s i n = take n (map (pieces comma) (linesFrom s i))
 
 pub record DataRead (s ks : List ℕ) (i : ℕ) (r : Data) : Type 0 where
   pub stop : (t : Table) (l : ℕ) → kindsOf (t .names) ≡ ks → (r .number ≡ 0 → ⊥) → run l (rows t 0) (linesFrom s i) ≡ refused (r .number) (l + r .rows) (r .column)

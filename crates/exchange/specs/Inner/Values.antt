@@ -5,6 +5,7 @@ use mathlib.Core.List.{List, [], _∷_, map}
 use mathlib.Core.Bool.{true, false, cond}
 use lib.ListN.{length, getD}
 use lib.Dec.{ltb}
+use Rattle.text.specs.Bytes.{comma, lineFeed}
 use Rattle.text.specs.Cells.{cellAt, lineAt, pieces}
 use Rattle.text.specs.Inner.Scans.{Stop}
 use Rattle.text.specs.Kinds.{kindOf}
@@ -52,7 +53,7 @@ HeaderFound s i end name r = (l : ℕ) (hs : List Header) → HeaderLines s end 
 pub record ColumnsStand (s : List ℕ) (place i : ℕ) : Type 0 where
   pub fed : Ends s place (place + length (lineAt s place))
   pub few : length (namesOf (lineAt s place)) ≤ 256
-  pub row : Stop 44 s i (i + length (lineAt s i))
+  pub row : Stop comma s i (i + length (lineAt s i))
   pub many : length (lineCells s i) ≡ length (namesOf (lineAt s place))
 
 unfoldable pub valueIn : List ℕ → ℕ → ℕ → List ℕ → Value
@@ -74,7 +75,7 @@ pub record ValuesIn (s : List ℕ) (t : Table) (p : ProfileAt) : Type 0 where
   pub named : t .names ≡ namesOf (lineAt s (p .names))
   pub columns : ColumnsStand s (p .names) (p .at)
   pub cells : lineCells s (p .at) ≡ rowCells t s (p .first)
-  pub place : p .at ≡ starts (map length (pieces 10 s)) (t .line + (p .first - 1))
+  pub place : p .at ≡ starts (map length (pieces lineFeed s)) (t .line + (p .first - 1))
   pub headers : t .sort ≡ ctd → HeaderLines s (p .names) (p .headers) (headersLine t) (t .headers)
 
 abbrev pub ValuesStand : List ℕ → ProfileAt → Type 0
