@@ -15,7 +15,7 @@ use Rattle.text.specs.Spaces.{trimFront, trimEnd, trim}
 use Rattle.text.specs.Kinds.{kindOf}
 use Rattle.text.specs.Judge.{judge, inSet}
 use Rattle.text.proofs.EveryLaws.{every-cons}
-use Rattle.text.proofs.LineLaws as line
+use Rattle.text.specs.Inner.Lines.{isPlain}
 use Rattle.exchange.specs.Faults.{clean, _then_, unless, kindFault, firstOf}
 use Rattle.exchange.specs.Columns.{kindsOf}
 use Rattle.exchange.specs.Rows.{cellRules, rowRules}
@@ -32,7 +32,7 @@ use Rattle.laws.proofs.JoinLaws.{Free, All}
 use Rattle.laws.proofs.WriteLaws.{RowHolds, row-holds, Fits}
 use Rattle.numbers.specs.Texts.{size, numberText, flagText}
 use Rattle.numbers.proofs.DigitLaws.{every-from}
-use Rattle.numbers.proofs.TextLaws.{atRight-length, isPlain, number-plain, flag-plain, Writable, number-judged}
+use Rattle.numbers.proofs.TextLaws.{atRight-length, isCellByte, number-plain, flag-plain, Writable, number-judged}
 use Rattle.correction.specs.declared.Answer.the-variants.{Applied}
 use Rattle.correction.specs.declared.Order.{Order}
 use Rattle.correction.specs.Corrections.{Entry, entry, entriesOf, numberEntries, notCorrectable, badNumber, badFlag, anyLonger, testsOf}
@@ -148,7 +148,7 @@ flag-some ctd (y ∷ x) e = omega arith
 pub record Good (t : Table) (sh : Shape) (w : Put) : Type 0 where
   pub in-line : w .col < length (t .names)
   pub long : length (w .text) ≡ widthAt sh (w .line) (w .col)
-  pub plain : every isPlain (w .text) ≡ true
+  pub plain : every isCellByte (w .text) ≡ true
   pub kind : isGood (judge (kindOf (getD (kindsOf (t .names)) (w .col) 0)) (w .text)) ≡ true
 
 flag-most : (ctd : Bool) (v : ℕ) → inSet ctd v ≡ true → v ≤ 9
@@ -203,12 +203,12 @@ goods f t n o e a = (
     flags false h = tt
 
 -- ---- such puts fit, by the shape and by the row
-plain-free : (c : ℕ) → isPlain c ≡ false → (xs : List ℕ) → every isPlain xs ≡ true → Free c xs
+plain-free : (c : ℕ) → isCellByte c ≡ false → (xs : List ℕ) → every isCellByte xs ≡ true → Free c xs
 plain-free c n [] e = tt
-plain-free c n (x ∷ xs) e = (go (eqb x c) refl, plain-free c n xs (every-cons isPlain x xs e .1))
+plain-free c n (x ∷ xs) e = (go (eqb x c) refl, plain-free c n xs (every-cons isCellByte x xs e .1))
   where
     go : (b : Bool) → eqb x c ≡ b → b ≡ false
-    go true q = absurd (true≢false (sym (every-cons isPlain x xs e .0) ∙ ap isPlain (eqb-true x c q) ∙ n))
+    go true q = absurd (true≢false (sym (every-cons isCellByte x xs e .0) ∙ ap isCellByte (eqb-true x c q) ∙ n))
     go false q = refl
 
 module _ (f : List ℕ) (t : Table) (l : ℕ) (many : length (getD (grid f) l []) ≡ length (t .names)) where
@@ -225,7 +225,7 @@ module _ (f : List ℕ) (t : Table) (l : ℕ) (many : length (getD (grid f) l []
     long =
         g .long ∙ ap (λ (k : ℕ). widthAt (shape (grid f)) k (w .col)) e
         ∙ width-cell (grid f) l (w .col) ∙ ap length (cell-row (grid f) l (w .col)) ∙ sym (List·getD-map length (getD (grid f) l []) (w .col) []);
-    plain = every-from line.isPlain isPlain (λ x h. (and-eq-true-iff (line.isPlain x) (not (eqb x 44))) .0 h .0) (w .text) (g .plain);
+    plain = every-from isPlain isCellByte (λ x h. (and-eq-true-iff (isPlain x) (not (eqb x 44))) .0 h .0) (w .text) (g .plain);
     comma = plain-free 44 refl (w .text) (g .plain);
     kind = g .kind;
   }

@@ -8,6 +8,7 @@ use exchange::Located;
 use numbers::size_of;
 use numbers::text_length;
 use text::last_place;
+use text::limits;
 use text::refusals;
 
 // A correction's answer: number, line and column, 0 each where it is applied; the places of the cells to write are then the others.
@@ -18,18 +19,20 @@ pub struct Decision {
     pub places: CellPlaces,
 }
 
-// The least size, in millionths, that no correction may have.
-const TOO_LARGE: u64 = 1000000000000000;
+// The largest flag, and the one that isn't used where the parameter's name begins with CTD.
+const LARGEST_FLAG: u64 = 9;
+
+const NO_CTD_FLAG: u64 = 8;
 
 // Rule 23: a number that can't be written with so many decimals, or not without loss.
 fn wrong_number(order: Order) -> bool
     ensures { λ r. ⌜ r ≡ badNumber order ⌝ }
 {
-    if 6 < order.decimals {
+    if limits::MOST_DECIMALS < order.decimals {
         return true;
     }
     let size = size_of(order.millionths);
-    if TOO_LARGE <= size {
+    if limits::TOO_LARGE <= size {
         return true;
     }
     size % last_place(order.decimals) != 0
@@ -40,7 +43,7 @@ fn wrong_flag(flagged: bool, ctd: bool, flag: u64) -> bool
     ensures { λ r. ⌜ r ≡ wrongFlag flagged ctd flag ⌝ }
 {
     if flagged {
-        !((1 <= flag) & (flag <= 9) & !(ctd & (flag == 8)))
+        !((1 <= flag) & (flag <= LARGEST_FLAG) & !(ctd & (flag == NO_CTD_FLAG)))
     } else {
         flag != 0
     }

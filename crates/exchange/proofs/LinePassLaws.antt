@@ -14,7 +14,8 @@ use Rattle.text.specs.Lines.{character, illFrom, illFormed, firstFrom, returnAt
 use Rattle.text.specs.Inner.Scans.{Scan}
 use Rattle.text.proofs.CellLaws.{line-in, line-end}
 use Rattle.text.proofs.ScanLaws.{scan-undo}
-use Rattle.text.proofs.LineLaws.{isPlain, plain-well-formed, plain-no-return, plain-no-control}
+use Rattle.text.specs.Inner.Lines.{isPlain}
+use Rattle.text.proofs.LineLaws.{plain-well-formed, plain-no-return, plain-no-control}
 use Rattle.exchange.specs.declared.lines.Line.{Line}
 use Rattle.exchange.specs.Faults.{clean, breaks, _then_, firstOf}
 use Rattle.exchange.specs.LineRules.{foundFault, lineRules, byteRules, unendedRules}

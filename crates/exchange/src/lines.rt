@@ -4,7 +4,7 @@ ghost use mathlib.Core.Bool.{false};
 ghost use Prim.Native.Nat.{_+_, min, _≤_, _<_};
 ghost use lib.ListN.{length};
 ghost use Rattle.text.specs.Inner.Scans.{Scan};
-ghost use Rattle.text.proofs.LineLaws.{isPlain};
+ghost use Rattle.text.specs.Inner.Lines.{isPlain};
 ghost use Rattle.exchange.specs.Inner.Lines.{Plain, lineFor, lineOf};
 use crate::grid::line_end;
 use text::Found;

@@ -14,7 +14,8 @@ use Rattle.text.specs.declared.Found.the-variants.{At, Nowhere}
 use Rattle.text.specs.Bytes.{every}
 use Rattle.text.specs.Lines.{Range, within, takes, alternatives, characterIn, character, illFrom, illFormed, firstFrom, isReturn, returnAt, isControl, controlAt}
 use Rattle.text.proofs.CharacterLaws.{character-ascii}
-use Rattle.text.proofs.LineLaws.{isPlain, plain-well-formed, plain-no-return, plain-no-control}
+use Rattle.text.specs.Inner.Lines.{isPlain}
+use Rattle.text.proofs.LineLaws.{plain-well-formed, plain-no-return, plain-no-control}
 use Rattle.exchange.specs.Faults.{clean, _then_, firstOf}
 use Rattle.exchange.specs.LineRules.{foundFault, lineTooLong, lineRules, byteRules}
 use Rattle.exchange.specs.Inner.Faults.{lineFault}

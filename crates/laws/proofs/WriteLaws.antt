@@ -25,7 +25,7 @@ use Rattle.text.specs.Kinds.{kindOf}
 use Rattle.text.specs.Judge.{ofKind, judge}
 use Rattle.text.proofs.EqualLaws.{equal-same}
 use Rattle.text.proofs.EveryLaws.{every-cons}
-use Rattle.text.proofs.LineLaws.{isPlain}
+use Rattle.text.specs.Inner.Lines.{isPlain}
 use Rattle.exchange.specs.Faults.{clean, breaks, _then_, unless, kindFault, firstOf}
 use Rattle.exchange.specs.Columns.{kindsOf}
 use Rattle.exchange.specs.Rows.{isEndData, cellRules, rowRules}

@@ -9,7 +9,8 @@ use lib.ListN.{length, replicate, length-append, length-replicate}
 use lib.Dec.{eqb, leb, ltb}
 use lib.IntN.{ℤ, pos, negsuc}
 use borrow.Author.Tests.{le-leb, lt-leb, leb-true, ne-eqb, eqb-true, lt-ltb, ltb-true, ltb-false}
-use Rattle.text.specs.Bytes.{isDigit, every, numeral}
+use Rattle.text.specs.Bytes.{comma, isDigit, every, numeral}
+use Rattle.text.specs.Inner.Lines.{isPlain}
 use Rattle.text.specs.Spaces.{trim}
 use Rattle.text.specs.Verdicts.{Verdict, wrong, good, signed, isGood, sizeOf}
 use Rattle.text.specs.Decimals.{front, fraction, settle, unsignedOf, decimalOf}
@@ -81,30 +82,30 @@ digit-solid x h = let r = digit-range x h in rw (ne-eqb x 32 (omega arith))
 number-solid : (m : ℤ) (d : ℕ) → every isSolid (numberText m d) ≡ true
 number-solid m d = number-every isSolid digit-solid refl refl m d
 
--- a byte that every line and cell may have
-abbrev pub isPlain : ℕ → Bool
-isPlain x = leb 32 x && leb x 126 && not (eqb x 44)
+-- a plain byte that may stand in a cell: no comma
+abbrev pub isCellByte : ℕ → Bool
+isCellByte x = isPlain x && not (eqb x comma)
 
-digit-plain : (x : ℕ) → isDigit x ≡ true → isPlain x ≡ true
+digit-plain : (x : ℕ) → isDigit x ≡ true → isCellByte x ≡ true
 digit-plain x h = let r = digit-range x h in rw (le-leb 32 x (omega arith), le-leb x 126 (omega arith), ne-eqb x 44 (omega arith))
 
-spaces-plain : (n : ℕ) → every isPlain (replicate n 32) ≡ true
+spaces-plain : (n : ℕ) → every isCellByte (replicate n 32) ≡ true
 unfolding every
 spaces-plain zero = refl
-spaces-plain (suc n) = every-after isPlain 32 (replicate n 32) refl (spaces-plain n)
+spaces-plain (suc n) = every-after isCellByte 32 (replicate n 32) refl (spaces-plain n)
 
-atRight-plain : (w : ℕ) (t : List ℕ) → every isPlain t ≡ true → every isPlain (atRight w t) ≡ true
+atRight-plain : (w : ℕ) (t : List ℕ) → every isCellByte t ≡ true → every isCellByte (atRight w t) ≡ true
 unfolding atRight
-atRight-plain w t h = every-append isPlain (replicate (w - length t) 32) t (spaces-plain (w - length t)) h
+atRight-plain w t h = every-append isCellByte (replicate (w - length t) 32) t (spaces-plain (w - length t)) h
 
-pub number-plain : (m : ℤ) (d w : ℕ) → every isPlain (atRight w (numberText m d)) ≡ true
-number-plain m d w = atRight-plain w (numberText m d) (number-every isPlain digit-plain refl refl m d)
+pub number-plain : (m : ℤ) (d w : ℕ) → every isCellByte (atRight w (numberText m d)) ≡ true
+number-plain m d w = atRight-plain w (numberText m d) (number-every isCellByte digit-plain refl refl m d)
 
 flag-digit : (v : ℕ) → v ≤ 9 → isDigit (48 + v) ≡ true
 flag-digit v h = digit-yes (48 + v) (omega arith) (omega arith)
 
-pub flag-plain : (v w : ℕ) → v ≤ 9 → every isPlain (atRight w (flagText v)) ≡ true
-flag-plain v w h = atRight-plain w (flagText v) (every-one isPlain (48 + v) (digit-plain (48 + v) (flag-digit v h)))
+pub flag-plain : (v w : ℕ) → v ≤ 9 → every isCellByte (atRight w (flagText v)) ≡ true
+flag-plain v w h = atRight-plain w (flagText v) (every-one isCellByte (48 + v) (digit-plain (48 + v) (flag-digit v h)))
 
 -- ---- a number judged
 -- what can be written without loss

@@ -4,17 +4,13 @@ ghost use mathlib.Core.Path.{_≡_};
 ghost use Rattle.numbers.specs.Texts.{size, textLength};
 ghost use Rattle.numbers.specs.Patches.{numberSet, digitSet};
 use text::Span;
+use text::limits::MOST_DECIMALS;
+use text::limits::ONE;
 
 mod lengths;
 mod puts;
 
-// The most decimals that a text has, and the largest digit.
-const MOST_DECIMALS: u64 = 6;
-
 const LARGEST_DIGIT: u64 = 9;
-
-// How many millionths one is.
-const ONE: u64 = 1000000;
 
 // The size of a number, the least one's too, which has no positive counterpart.
 pub fn size_of(m: i64) -> u64

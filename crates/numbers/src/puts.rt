@@ -6,9 +6,9 @@ ghost use lib.ListN.{length, replicate};
 ghost use Rattle.numbers.specs.Texts.{lastDigits, wholeText, fractionText, signText, textOf};
 ghost use Rattle.numbers.specs.Patches.{patch};
 ghost use Rattle.numbers.specs.Inner.Puts.{Room, Put};
-use crate::ONE;
 use crate::lengths::digit_count;
 use text::last_place;
+use text::limits::ONE;
 
 pub fn put_byte(file: &mut [u8], end: usize, b: u8) -> usize
     requires { ⌜ Room (now file) end (b ∷ []) ⌝ }

@@ -10,6 +10,7 @@ use lib.ListN.{length, getD, drop, drop-of-length-le}
 use lib.Seq.{drop-cons, drop-drop}
 use lib.Dec.{leb}
 use borrow.Author.Tests.{eq-eqb, ne-eqb, le-ltb, leb-true}
+use Rattle.text.specs.Inner.Lines.{isPlain}
 use Rattle.text.specs.declared.Found.the-variants.{At, Nowhere}
 use Rattle.text.specs.Bytes.{every}
 use Rattle.text.specs.Lines.{character, illFrom, illFormed, firstFrom, isReturn, returnAt, isControl, controlAt}
@@ -59,10 +60,7 @@ module _ (s : List ℕ) (i : ℕ) where
       let f : illFrom i 0 (drop i s) ≡ illFrom (i + n) 0 (drop n (drop i s)) = rw d (step _ _ i n (rw d at e) z) in
       f ∙ rw drop-drop
 
--- bytes 20 to 7E
-abbrev pub isPlain : ℕ → Bool
-isPlain x = leb 0x20 x && leb x 0x7e
-
+-- ---- plain bytes
 plain : (x : ℕ) → isPlain x ≡ true → (0x20 ≤ x) × (x ≤ 0x7e)
 plain x e =
     let w = (and-eq-true-iff (leb 0x20 x) (leb x 0x7e)) .0 e in

@@ -12,12 +12,12 @@ ghost use Rattle.text.specs.Inner.Cells.{topOf, rangedOf};
 ghost use Rattle.text.specs.Inner.Scans.{Stop, body};
 use crate::Judged;
 use crate::dates::is_date;
-use crate::decimals::TOO_LARGE;
 use crate::decimals::blank_cell;
 use crate::decimals::close;
 use crate::decimals::decimal;
 use crate::decimals::wrong_cell;
 use crate::kinds;
+use crate::limits;
 use crate::refusals;
 use crate::scans::digits;
 use crate::scans::spaces;
@@ -75,7 +75,7 @@ fn top(kind: u8) -> u64
     } else if kind == kinds::LONGITUDE {
         MOST_LONGITUDE
     } else {
-        TOO_LARGE
+        limits::TOO_LARGE
     }
 }
 

@@ -11,13 +11,11 @@ ghost use Rattle.text.specs.Judge.{unlessBlank, judgedOf};
 ghost use Rattle.text.specs.Inner.Scans.{Stop, body, closing};
 use crate::Judged;
 use crate::last_place;
+use crate::limits;
 use crate::refusals;
 use crate::scans::digits;
 use crate::scans::spaces;
 use crate::scans::text_end;
-
-// Every size of a decimal is below it: 10^15 millionths.
-pub const TOO_LARGE: u64 = 1000000000000000;
 
 // A cell that is blank, and one that is not of its kind; what is left of it goes on at q.
 pub fn blank_cell(s: &[u8], q: usize, e: usize, separator: u8) -> Judged
@@ -88,7 +86,7 @@ fn unsigned(s: &[u8], p: usize, e: usize, separator: u8, minus: bool) -> Judged
         if q == p {
             wrong_cell(s, q, e, separator)
         } else {
-            close(s, q, e, separator, minus, v * 1000000, 0)
+            close(s, q, e, separator, minus, v * limits::ONE, 0)
         }
     } else {
         let f = digits(s, q + 1, e, separator, q + 8, v);

@@ -17,6 +17,7 @@ mod cells;
 mod dates;
 mod decimals;
 pub mod kinds;
+pub mod limits;
 mod lines;
 mod names;
 mod readings;
@@ -278,7 +279,7 @@ pub fn whole(s: &[u8], i: usize, e: usize, separator: u8, most: usize) -> Judged
 pub fn signed_size(minus: bool, size: u64) -> i64
     ensures { λ r. ⌜ r ≡ signed minus size ⌝ }
 {
-    if decimals::TOO_LARGE <= size {
+    if limits::TOO_LARGE <= size {
         return 0;
     }
     let m = size as i64;

@@ -8,7 +8,7 @@ use lib.Dec.{ltb}
 use Rattle.text.specs.Bytes.{lineFeed}
 use Rattle.text.specs.Cells.{lineAt, pieces}
 use Rattle.text.specs.Inner.Scans.{Scan}
-use Rattle.text.proofs.LineLaws.{isPlain}
+use Rattle.text.specs.Inner.Lines.{isPlain}
 use Rattle.exchange.specs.declared.lines.Line.{Line}
 use Rattle.exchange.specs.Faults.{Fault, clean, breaks}
 use Rattle.exchange.specs.Inner.Faults.{lineFault, unendedFault}

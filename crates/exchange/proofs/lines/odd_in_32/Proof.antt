@@ -1,5 +1,5 @@
 use Rattle.text.specs.Inner.Scans.{Scan}
-use Rattle.text.proofs.LineLaws.{isPlain}
+use Rattle.text.specs.Inner.Lines.{isPlain}
 use Rattle.exchange.proofs.LinePassLaws.{plain-more}
 use Prim.Native.Nat.{ℕ, _+_, _-_, _≤_}
 use mathlib.Core.Path.{_≡_, subst}

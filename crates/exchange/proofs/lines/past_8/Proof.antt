@@ -2,7 +2,7 @@ use Prim.Native.Nat.{_-_, _≤_}
 use native.Mathlib.Omega.{arith}
 use borrow.Author.Needs.{needs}
 use Rattle.text.specs.Inner.Scans.{Scan}
-use Rattle.text.proofs.LineLaws.{isPlain}
+use Rattle.text.specs.Inner.Lines.{isPlain}
 use Rattle.exchange.proofs.LinePassLaws.{scan-join}
 use Rattle.exchange.proofs.lines.past_8.Statement.{statement}
 use Rattle.exchange.proofs.lines.past_8.Tie as tie
