@@ -7,7 +7,7 @@ use native.Mathlib.Omega.{arith}
 use lib.ListN.{length, getD, set, take, drop, length-append, length-map, List·getD-map}
 use lib.Seq.{getD-set-same, getD-set-other, set-set, set-comm, map-set-same, take-at, drop-at}
 use Rattle.exchange.specs.Grid.{starts}
-use Rattle.laws.specs.Writes.{joinLater, join, ungrid}
+use Rattle.laws.specs.Inner.Writes.{joinLater, join, ungrid}
 use Rattle.laws.proofs.JoinLaws.{All, bytesBefore, bytesAfter, length-before, join-at, join-set}
 use Rattle.laws.proofs.UngridLaws.{CleanCell, CleanRow, Clean, clean-row-set}
 use Rattle.numbers.specs.Patches.{patch}

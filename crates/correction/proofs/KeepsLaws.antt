@@ -9,7 +9,7 @@ use Rattle.text.specs.Cells.{pieces}
 use Rattle.exchange.specs.Grid.{nowhere}
 use Rattle.exchange.specs.Columns.{kindOfName, kindsOf}
 use Rattle.exchange.specs.Places.{Table, Outcome, accepted, refused, outcomeOf}
-use Rattle.laws.specs.Writes.{ungrid}
+use Rattle.laws.specs.Inner.Writes.{ungrid}
 use Rattle.exchange.specs.Profiles.{grid}
 use Rattle.exchange.specs.Faults.{clean, firstOf}
 use Rattle.exchange.specs.Rows.{boundRules}

@@ -11,7 +11,7 @@ use Rattle.text.specs.declared.Span.{Span}
 use Rattle.text.specs.Cells.{pieces}
 use Rattle.exchange.specs.Places.{Table, Outcome, accepted, refused, outcomeOf}
 use Rattle.exchange.specs.Grid.{starts, spanIn, nowhere}
-use Rattle.laws.specs.Writes.{join, ungrid}
+use Rattle.laws.specs.Inner.Writes.{join, ungrid}
 use Rattle.exchange.specs.Profiles.{grid}
 use Rattle.exchange.specs.Answers.{cellPlace}
 use Rattle.laws.proofs.JoinLaws.{All}

@@ -5,7 +5,7 @@ use mathlib.Core.Path.{_≡_, refl, sym, ap, _∙_, subst}
 use mathlib.Core.List.{List, [], _∷_, map}
 use lib.ListN.{length, getD, set}
 use lib.Seq.{set-set, set-getD, getD-set-same, lt-length-set, map-set-same}
-use Rattle.laws.specs.Writes.{ungrid, Write, written}
+use Rattle.laws.specs.Inner.Writes.{ungrid, Write, written}
 use Rattle.laws.proofs.JoinLaws.{All}
 use Rattle.laws.proofs.UngridLaws.{CleanCell, Clean}
 use Rattle.correction.proofs.GeometryLaws.{Grid, Shape, shape, put, put-set, put-comm, cellIn, cell-put-same, cell-put-other, widthAt, Inside, shape-put, clean-put, begin, In, put-outside}

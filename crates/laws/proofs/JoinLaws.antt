@@ -17,7 +17,7 @@ use lib.Seq.{lt-length-set, getD-set-same}
 use borrow.Author.Tests.{eqb-true, eq-eqb}
 use Rattle.text.specs.Cells.{firstPiece, laterPieces, pieces}
 use Rattle.exchange.specs.Grid.{starts}
-use Rattle.laws.specs.Writes.{joinLater, join}
+use Rattle.laws.specs.Inner.Writes.{joinLater, join}
 
 -- every byte is other than c
 abbrev pub Free : ℕ → List ℕ → Type 0

@@ -19,7 +19,7 @@ use Rattle.text.proofs.LineLaws.{plain-well-formed, plain-no-return, plain-no-c
 use Rattle.exchange.specs.Faults.{clean, _then_, firstOf}
 use Rattle.exchange.specs.LineRules.{foundFault, lineTooLong, lineRules, byteRules}
 use Rattle.exchange.specs.Inner.Faults.{lineFault}
-use Rattle.laws.specs.Writes.{join, joinLater}
+use Rattle.laws.specs.Inner.Writes.{join, joinLater}
 use Rattle.exchange.proofs.HeaderLaws.{then-clean}
 use Rattle.laws.proofs.JoinLaws.{join-length-set}
 

@@ -13,7 +13,7 @@ use Rattle.text.specs.Cells.{firstPiece, laterPieces, pieces}
 use Rattle.exchange.specs.Faults.{clean, firstOf, unless}
 use Rattle.exchange.specs.Columns.{kindsOf}
 use Rattle.exchange.specs.Rows.{isEndData}
-use Rattle.laws.specs.Writes.{join}
+use Rattle.laws.specs.Inner.Writes.{join}
 use Rattle.exchange.specs.Places.{Table, Place, first, rows, lastPieceRules, endRules, step, accepted, run, outcomeOf}
 use Rattle.exchange.specs.Inner.Faults.{lineFault, rowFault, boundFault}
 use Rattle.exchange.proofs.RuleLaws.{row-step}

@@ -14,7 +14,7 @@ use native.Mathlib.Nat.{le-of-suc-le-suc, not-suc-le-zero}
 use lib.Dec.{eqb}
 use lib.ListN.{length, getD, set}
 use Rattle.text.specs.Cells.{firstPiece, laterPieces, pieces}
-use Rattle.laws.specs.Writes.{joinLater, join, ungrid}
+use Rattle.laws.specs.Inner.Writes.{joinLater, join, ungrid}
 use Rattle.exchange.specs.Profiles.{grid}
 use Rattle.laws.proofs.JoinLaws.{Free, All, join-pieces, pieces-free, pieces-join}
 

@@ -29,7 +29,7 @@ use Rattle.text.specs.Inner.Lines.{isPlain}
 use Rattle.exchange.specs.Faults.{clean, breaks, _then_, unless, kindFault, firstOf}
 use Rattle.exchange.specs.Columns.{kindsOf}
 use Rattle.exchange.specs.Rows.{isEndData, cellRules, rowRules}
-use Rattle.laws.specs.Writes.{join, ungrid, Write, written}
+use Rattle.laws.specs.Inner.Writes.{join, ungrid, Write, written}
 use Rattle.exchange.specs.Profiles.{grid}
 use Rattle.exchange.specs.Places.{Table, accepted, outcomeOf}
 use Rattle.exchange.specs.Inner.Faults.{lineFault, cellFault, rowFault, boundFault}

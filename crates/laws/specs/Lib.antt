@@ -1,3 +1,3 @@
-pub mod Writes
 pub mod RuleOrder
 pub mod Promises
+pub mod Inner

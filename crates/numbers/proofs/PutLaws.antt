@@ -11,25 +11,25 @@ use borrow.Author.Tests.{ne-eqb}
 use Rattle.text.specs.declared.Span.{Span}
 use Rattle.numbers.specs.Texts.{lastDigits, wholeText, fractionText, signText, atRight}
 use Rattle.numbers.specs.Patches.{patch}
-use Rattle.numbers.specs.Inner.Puts.{Room, Put, InCell}
+use Rattle.numbers.specs.Inner.Puts.{Room, PutBefore, InCell}
 use Rattle.numbers.proofs.DigitLaws.{last-length, whole-last}
 use Rattle.numbers.proofs.PatchLaws.{patch-nil, patch-length, patch-front, patch-join}
 
 -- ---- texts put
-pub put-none : (f : List ℕ) (e : ℕ) → Put f e [] f e
+pub put-none : (f : List ℕ) (e : ℕ) → PutBefore f e [] f e
 put-none f e = record { starts = omega arith; bytes = sym (patch-nil f e) }
 
-pub put-more : {f t g s h : List ℕ} {e i a : ℕ} → e ≤ length f → Put f e t g i → Put g i s h a → Put f e (s ++ t) h a
+pub put-more : {f t g s h : List ℕ} {e i a : ℕ} → e ≤ length f → PutBefore f e t g i → PutBefore g i s h a → PutBefore f e (s ++ t) h a
 put-more {f} {t} {g} {s} {h} {e} {i} {a} l p q = record {
   starts = omega (arith, p .starts, q .starts, length-append s t);
   bytes = q .bytes ∙ ap (λ (x : List ℕ). patch x a s) (p .bytes) ∙ patch-join f s t a i (q .starts) (omega (arith, p .starts));
 }
 
-pub put-length : {f t g : List ℕ} {e a : ℕ} → e ≤ length f → Put f e t g a → length g ≡ length f
+pub put-length : {f t g : List ℕ} {e a : ℕ} → e ≤ length f → PutBefore f e t g a → length g ≡ length f
 put-length {f} {t} {g} {e} {a} l p = ap length (p .bytes) ∙ patch-length f a t (omega (arith, p .starts))
 
 -- one byte more
-pub put-byte : {f t g : List ℕ} {e i : ℕ} (x : ℕ) → 0 < i → e ≤ length f → Put f e t g i → Put f e (x ∷ t) (set g (i - 1) x) (i - 1)
+pub put-byte : {f t g : List ℕ} {e i : ℕ} (x : ℕ) → 0 < i → e ≤ length f → PutBefore f e t g i → PutBefore f e (x ∷ t) (set g (i - 1) x) (i - 1)
 put-byte {f} {t} {g} {e} {i} x h l p =
     let k : i ≡ suc (i - 1) = omega arith in
     record {
@@ -42,7 +42,7 @@ put-byte {f} {t} {g} {e} {i} x h l p =
 -- ---- the loops' invariants: digits, and spaces
 pub record Digits (f : List ℕ) (e count n start : ℕ) (g : List ℕ) (at rest : ℕ) : Type 0 where
   pub done : List ℕ
-  pub put : Put f e done g at
+  pub put : PutBefore f e done g at
   pub whole : lastDigits (at - start) rest ++ done ≡ lastDigits count n
   pub low : start ≤ at
   pub same : length g ≡ length f
@@ -71,7 +71,7 @@ module _ (f : List ℕ) (e count n : ℕ) (r : Room f e (lastDigits count n)) wh
         same = put-length (r .inside) p;
       }
 
-  pub digits-end : {g : List ℕ} {at rest : ℕ} → at ≤ e - count → Digits f e count n (e - count) g at rest → Put f e (lastDigits count n) g (e - count)
+  pub digits-end : {g : List ℕ} {at rest : ℕ} → at ≤ e - count → Digits f e count n (e - count) g at rest → PutBefore f e (lastDigits count n) g (e - count)
   unfolding lastDigits
   digits-end {g} {at} {rest} h d =
       let i : at ≡ e - count = omega (arith, d .low) in
@@ -80,7 +80,7 @@ module _ (f : List ℕ) (e count n : ℕ) (r : Room f e (lastDigits count n)) wh
       rw (← i) (rw (← w) (d .put))
 
 pub record Spaces (f : List ℕ) (e start : ℕ) (g : List ℕ) (at : ℕ) : Type 0 where
-  pub put : Put f e (replicate (e - at) 32) g at
+  pub put : PutBefore f e (replicate (e - at) 32) g at
   pub low : start ≤ at
   pub same : length g ≡ length f
 
@@ -105,18 +105,18 @@ module _ {f T : List ℕ} {e : ℕ} (s t : List ℕ) (q : T ≡ s ++ t) (r : Roo
   pub room-right : Room f e t
   room-right = record { fits = omega (arith, long, r .fits); inside = r .inside }
 
-  pub room-left : {g : List ℕ} {i : ℕ} → Put f e t g i → Room g i s
+  pub room-left : {g : List ℕ} {i : ℕ} → PutBefore f e t g i → Room g i s
   room-left {g} {i} p = record { fits = omega (arith, long, r .fits, p .starts); inside = omega (arith, p .starts, put-length (r .inside) p, r .inside) }
 
-  pub put-both : {g h : List ℕ} {i a : ℕ} → Put f e t g i → Put g i s h a → Put f e T h a
+  pub put-both : {g h : List ℕ} {i a : ℕ} → PutBefore f e t g i → PutBefore g i s h a → PutBefore f e T h a
   put-both {g} {h} {i} {a} p k = rw q (put-more (r .inside) p k)
 
 -- another text, equal to it
 pub room-as : {f s t : List ℕ} {e : ℕ} → s ≡ t → Room f e s → Room f e t
 room-as {f} {s} {t} {e} q r = subst (λ (x : List ℕ). Room f e x) q r
 
-pub put-as : {f s t g : List ℕ} {e a : ℕ} → s ≡ t → Put f e s g a → Put f e t g a
-put-as {f} {s} {t} {g} {e} {a} q p = subst (λ (x : List ℕ). Put f e x g a) q p
+pub put-as : {f s t g : List ℕ} {e a : ℕ} → s ≡ t → PutBefore f e s g a → PutBefore f e t g a
+put-as {f} {s} {t} {g} {e} {a} q p = subst (λ (x : List ℕ). PutBefore f e x g a) q p
 
 -- ---- the parts of a number's text
 pub sign-minus : (b : Bool) → b ≡ true → 45 ∷ [] ≡ signText b
@@ -146,10 +146,10 @@ module _ {f t : List ℕ} {p : Span} (c : InCell f p t) where
   cell-room = record { fits = omega (arith, c .fits); inside = c .inside }
 
   -- what is left of the cell at the left of its text
-  pub cell-left : {g : List ℕ} {a : ℕ} → Put f (p .start + p .len) t g a → (p .start ≤ a) × (a ≤ length g)
+  pub cell-left : {g : List ℕ} {a : ℕ} → PutBefore f (p .start + p .len) t g a → (p .start ≤ a) × (a ≤ length g)
   cell-left {g} {a} w = (omega (arith, w .starts, c .fits), omega (arith, w .starts, put-length (c .inside) w, c .inside))
 
-  pub cell-set : {g h : List ℕ} {a : ℕ} → Put f (p .start + p .len) t g a → h ≡ patch g (p .start) (replicate (a - p .start) 32) → h ≡ patch f (p .start) (atRight (p .len) t)
+  pub cell-set : {g h : List ℕ} {a : ℕ} → PutBefore f (p .start + p .len) t g a → h ≡ patch g (p .start) (replicate (a - p .start) 32) → h ≡ patch f (p .start) (atRight (p .len) t)
   unfolding atRight
   cell-set {g} {h} {a} w e =
       let k : a - p .start ≡ p .len - length t = omega (arith, w .starts, c .fits) in

@@ -5,14 +5,14 @@ ghost use Prim.Native.Nat.{_-_, _≤_};
 ghost use lib.ListN.{length, replicate};
 ghost use Rattle.numbers.specs.Texts.{lastDigits, wholeText, fractionText, signText, textOf};
 ghost use Rattle.numbers.specs.Patches.{patch};
-ghost use Rattle.numbers.specs.Inner.Puts.{Room, Put};
+ghost use Rattle.numbers.specs.Inner.Puts.{Room, PutBefore};
 use crate::lengths::digit_count;
 use text::last_place;
 use text::limits::ONE;
 
 pub fn put_byte(file: &mut [u8], end: usize, b: u8) -> usize
     requires { ⌜ Room (now file) end (b ∷ []) ⌝ }
-    ensures { λ r. ⌜ Put (now (file .entry)) end (b ∷ []) (now (file .exit)) r ⌝ }
+    ensures { λ r. ⌜ PutBefore (now (file .entry)) end (b ∷ []) (now (file .exit)) r ⌝ }
 {
     let at = end - 1;
     file[at] = b;
@@ -22,7 +22,7 @@ pub fn put_byte(file: &mut [u8], end: usize, b: u8) -> usize
 // The last `count` digits of n.
 fn put_digits(file: &mut [u8], end: usize, count: usize, n: u64) -> usize
     requires { ⌜ Room (now file) end (lastDigits count n) ⌝ }
-    ensures { λ r. ⌜ Put (now (file .entry)) end (lastDigits count n) (now (file .exit)) r ⌝ }
+    ensures { λ r. ⌜ PutBefore (now (file .entry)) end (lastDigits count n) (now (file .exit)) r ⌝ }
 {
     let start = end - count;
     let mut at = end;
@@ -39,7 +39,7 @@ fn put_digits(file: &mut [u8], end: usize, count: usize, n: u64) -> usize
 fn put_fraction(file: &mut [u8], end: usize, size: u64, decimals: u64) -> usize
     requires { ⌜ decimals ≤ 6 ⌝ }
     requires { ⌜ Room (now file) end (fractionText decimals size) ⌝ }
-    ensures { λ r. ⌜ Put (now (file .entry)) end (fractionText decimals size) (now (file .exit)) r ⌝ }
+    ensures { λ r. ⌜ PutBefore (now (file .entry)) end (fractionText decimals size) (now (file .exit)) r ⌝ }
 {
     if decimals == 0 {
         return end;
@@ -51,14 +51,14 @@ fn put_fraction(file: &mut [u8], end: usize, size: u64, decimals: u64) -> usize
 
 fn put_whole(file: &mut [u8], end: usize, n: u64) -> usize
     requires { ⌜ Room (now file) end (wholeText n) ⌝ }
-    ensures { λ r. ⌜ Put (now (file .entry)) end (wholeText n) (now (file .exit)) r ⌝ }
+    ensures { λ r. ⌜ PutBefore (now (file .entry)) end (wholeText n) (now (file .exit)) r ⌝ }
 {
     put_digits(file, end, digit_count(n), n)
 }
 
 fn put_sign(file: &mut [u8], end: usize, minus: bool) -> usize
     requires { ⌜ Room (now file) end (signText minus) ⌝ }
-    ensures { λ r. ⌜ Put (now (file .entry)) end (signText minus) (now (file .exit)) r ⌝ }
+    ensures { λ r. ⌜ PutBefore (now (file .entry)) end (signText minus) (now (file .exit)) r ⌝ }
 {
     if minus {
         put_byte(file, end, b'-')
@@ -71,7 +71,7 @@ fn put_sign(file: &mut [u8], end: usize, minus: bool) -> usize
 pub fn put_text(file: &mut [u8], end: usize, minus: bool, size: u64, decimals: u64) -> usize
     requires { ⌜ decimals ≤ 6 ⌝ }
     requires { ⌜ Room (now file) end (textOf minus size decimals) ⌝ }
-    ensures { λ r. ⌜ Put (now (file .entry)) end (textOf minus size decimals) (now (file .exit)) r ⌝ }
+    ensures { λ r. ⌜ PutBefore (now (file .entry)) end (textOf minus size decimals) (now (file .exit)) r ⌝ }
 {
     let point = put_fraction(file, end, size, decimals);
     let whole = put_whole(file, point, size / ONE);

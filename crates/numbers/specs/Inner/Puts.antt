@@ -12,7 +12,7 @@ pub record Room (f : List ℕ) (e : ℕ) (t : List ℕ) : Type 0 where
   pub inside : e ≤ length f
 
 -- f with the text t put just before e, where it starts at a
-pub record Put (f : List ℕ) (e : ℕ) (t g : List ℕ) (a : ℕ) : Type 0 where
+pub record PutBefore (f : List ℕ) (e : ℕ) (t g : List ℕ) (a : ℕ) : Type 0 where
   pub starts : a + length t ≡ e
   pub bytes : g ≡ patch f a t
 

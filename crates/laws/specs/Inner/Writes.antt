@@ -1,4 +1,4 @@
--- A file put together from its lines and cells, and texts written into the cells of a row.
+-- The words of the laws about a row written: a file put together from its lines and cells, and texts written into the cells of a row. No promise cites them.
 use Prim.Native.Nat.{ℕ}
 use mathlib.Core.List.{List, [], _∷_, _++_, map}
 use lib.ListN.{set}
