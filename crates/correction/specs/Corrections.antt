@@ -57,8 +57,7 @@ notCorrectable t o = not (isMeasured t (o .column))
 unfoldable pub badNumber : Order → Bool
 badNumber o = ltb 6 (o .decimals) || (not (ltb (size (o .millionths)) (10 ^ 15)) || not (eqb (size (o .millionths) % 10 ^ (6 - o .decimals)) 0))
 
--- 24: flag not in the set, 1 to 9, but 8 isn't used where the parameter's name begins with CTD; or not 0 where there is no flag column
--- of a column by whether it has a flag column, and whether its name begins so
+-- 24: flag not in the set (text's Judge), or not 0 where there is no flag column; by whether the column has one, and whether its name begins with CTD
 abbrev pub wrongFlag : Bool → Bool → ℕ → Bool
 wrongFlag flagged ctd v = not (cond flagged (inSet ctd v) (eqb v 0))
 
