@@ -1,11 +1,11 @@
 -- The columns of a measurement's cells: a flag column stands in the line, its kind is the one that its parameter's name says, and it is the flag column of
 -- one column only. So a cell belongs to one measurement and is one of its cells (cell-once), and none is a cell that a profile's key or record is read from.
 use Prim.Native.Nat.{ℕ, zero, suc, _+_, _-_, _≤_, _<_}
-use mathlib.Core.Path.{_≡_, refl, sym, ap, _∙_, subst}
+use mathlib.Core.Path.{_≡_, refl, sym, ap, _∙_}
 use mathlib.Core.Bool.{Bool, true, false, cond, _&&_, and-eq-true-iff}
 use mathlib.Core.List.{List, [], _∷_, map}
 use native.Mathlib.Omega.{arith}
-use lib.ListN.{length, getD, length-map}
+use lib.ListN.{length, getD}
 use borrow.Author.Tests.{ltb-true}
 use Rattle.text.specs.Bytes.{equal}
 use Rattle.text.specs.Names.{beginsCtd}

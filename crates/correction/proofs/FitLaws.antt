@@ -73,7 +73,7 @@ none-of false false c e = absurd (true≢false e)
 none-of false true false e = absurd (true≢false e)
 none-of false true true e = (refl, refl, refl)
 
-number-good : (o : Order) → badNumber o ≡ false → Writable (o .millionths) (o .decimals)
+pub number-good : (o : Order) → badNumber o ≡ false → Writable (o .millionths) (o .decimals)
 unfolding badNumber
 number-good o e =
     let m : ℤ = o .millionths in

@@ -2,12 +2,12 @@
 use Prim.Native.Nat.{ℕ, _+_, _-_, _%_, _^_, _<_}
 use mathlib.Core.Path.{_≡_, refl, sym, ap, _∙_}
 use mathlib.Core.Logic.{_↔_}
-use mathlib.Core.Bool.{Bool, true, false, cond, not, _&&_, _||_, true≢false, false≢true}
+use mathlib.Core.Bool.{Bool, true, false, cond, not, false≢true}
 use mathlib.Core.List.{List}
 use native.Mathlib.Omega.{arith}
 use lib.ListN.{length, length-map, List·getD-eq-default}
 use lib.Dec.{eqb, leb, ltb}
-use borrow.Author.Tests.{le-leb, leb-true, leb-false, lt-ltb, le-ltb, ltb-true, ltb-false, eq-eqb, ne-eqb, eqb-true, eqb-false, not-false}
+use borrow.Author.Tests.{leb-true, leb-false, lt-ltb, le-ltb, ltb-true, ltb-false, eq-eqb, ne-eqb, eqb-true, not-false}
 use Rattle.text.specs.Bytes.{every}
 use Rattle.text.specs.Names.{beginsCtd}
 use Rattle.text.specs.Verdicts.{wrong, outOfRange, good, isGood}
@@ -25,23 +25,13 @@ use Rattle.correction.specs.Corrections.{badNumber, badFlag}
 use Rattle.correction.specs.WrittenTexts.{NumberExactly, FlagExactly}
 use Rattle.correction.proofs.FlagLaws.{flag-judged}
 use Rattle.correction.proofs.ColumnLaws.{flag-of}
+use Rattle.correction.proofs.FitLaws.{number-good}
 
--- ---- 23: one of the three holds, or the number may be written
-none-of : (a b c : Bool) → (a || (not b || not c)) ≡ false → (a ≡ false) × (b ≡ true) × (c ≡ true)
-none-of true b c e = absurd (true≢false e)
-none-of false false c e = absurd (true≢false e)
-none-of false true false e = absurd (true≢false e)
-none-of false true true e = (refl, refl, refl)
-
+-- ---- 23
 pub numbers-exactly : NumberExactly
 unfolding badNumber
 numbers-exactly o = (
-  (λ e. let w = none-of (ltb 6 (o .decimals)) (ltb (size (o .millionths)) (10 ^ 15)) (eqb (size (o .millionths) % 10 ^ (6 - o .decimals)) 0) e in
-      number-exactly (o .millionths) (o .decimals) .0 (record {
-        few = ltb-false 6 (o .decimals) (w .0);
-        small = ltb-true (size (o .millionths)) (10 ^ 15) (w .1);
-        exact = eqb-true (size (o .millionths) % 10 ^ (6 - o .decimals)) 0 (w .2);
-      })),
+  (λ e. number-exactly (o .millionths) (o .decimals) .0 (number-good o e)),
   (λ e. let w = number-exactly (o .millionths) (o .decimals) .1 e in
       rw (le-ltb 6 (o .decimals) (w .few), lt-ltb (size (o .millionths)) (10 ^ 15) (w .small), eq-eqb (size (o .millionths) % 10 ^ (6 - o .decimals)) 0 (w .exact))),
 )

@@ -1,9 +1,9 @@
 -- Document 01, "A correction" and refusals 21 to 25: what a correction is answered, and the bytes it leaves.
 use Prim.Native.Nat.{ℕ, _-_, _%_, _^_}
 use mathlib.Core.List.{List, [], _∷_, map}
-use mathlib.Core.Bool.{Bool, false, cond, not, _&&_, _||_}
+use mathlib.Core.Bool.{Bool, false, cond, not, _||_}
 use lib.ListN.{length}
-use lib.Dec.{eqb, leb, ltb}
+use lib.Dec.{eqb, ltb}
 use lib.IntN.{ℤ}
 use Rattle.text.specs.declared.Span.{Span}
 use Rattle.text.specs.Names.{beginsCtd}
