@@ -24,8 +24,8 @@ pub check-answered : (x y : Checked) → x ≡ y → (k : ℕ) → k ≡ kindNum
     → (x .number ≡ y .number) × (x .number ∷ x .line ∷ x .column ∷ k ∷ x .columns ∷ x .rows ∷ x .profiles ∷ x .missing ∷ [] ≡ checkNumbers y)
 check-answered x y e k h = (ap (λ (z : Checked). z .number) e, ap (λ (i : ℕ). x .number ∷ x .line ∷ x .column ∷ i ∷ x .columns ∷ x .rows ∷ x .profiles ∷ x .missing ∷ []) h ∙ ap checkNumbers e)
 
-pub place-answered : (x y : CellPlace) → x ≡ y → (x .number ≡ y .number) × (placeNumbers x ≡ placeNumbers y)
-place-answered x y e = (ap (λ (z : CellPlace). z .number) e, ap placeNumbers e)
+pub place-answered : (x y : CellPlace) → x ≡ y → (ns : List ℕ) → ns ≡ placeNumbers x → (x .number ≡ y .number) × (ns ≡ placeNumbers y)
+place-answered x y e ns h = (ap (λ (z : CellPlace). z .number) e, h ∙ ap placeNumbers e)
 
 pub flag-answered : (x y : Flagged) → x ≡ y → (x .number ≡ y .number) × (flagNumbers x ≡ flagNumbers y)
 flag-answered x y e = (ap (λ (z : Flagged). z .number) e, ap flagNumbers e)

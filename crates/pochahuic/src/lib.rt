@@ -9,6 +9,7 @@ ghost use Rattle.pochahuic.specs.Numbers.{kindNumber, checkNumbers, plac
 use correction::Answer;
 use correction::Order;
 use exchange::CastTime;
+use exchange::CellPlace;
 use exchange::FileKind;
 use text::Reading;
 
@@ -58,6 +59,18 @@ pub extern "C" fn pochahuic_check(file: &[u8], out: &mut [u64; 8]) -> u64
     c.number
 }
 
+fn place_numbers(at: CellPlace) -> [u64; 5]
+    ensures { λ r. ⌜ r ≡ placeNumbers at ⌝ }
+{
+    [
+        at.number,
+        at.line,
+        at.column,
+        at.place.start as u64,
+        at.place.len as u64,
+    ]
+}
+
 // Where a trimmed cell stands: number, line, column, start, length; the start counts from 0.
 #[no_mangle]
 pub extern "C" fn pochahuic_cell(file: &[u8], row: u64, column: u64, out: &mut [u64; 5]) -> u64
@@ -65,13 +78,7 @@ pub extern "C" fn pochahuic_cell(file: &[u8], row: u64, column: u64, out: &mut [
     ensures { λ _. ⌜ now (out .exit) ≡ placeNumbers (placeFor (now (file .entry)) row column) ⌝ }
 {
     let at = exchange::cell_place(file, row, column);
-    *out = [
-        at.number,
-        at.line,
-        at.column,
-        at.place.start as u64,
-        at.place.len as u64,
-    ];
+    *out = place_numbers(at);
     at.number
 }
 
@@ -171,15 +178,9 @@ pub extern "C" fn pochahuic_station<'a>(
     ensures { λ r. ⌜ r ≡ stationAnswer (now (file .entry)) (stationedOf (now (file .entry)) k (now (name .entry))) .number ⌝ }
     ensures { λ _. ⌜ now (out .exit) ≡ placeNumbers (stationAnswer (now (file .entry)) (stationedOf (now (file .entry)) k (now (name .entry)))) ⌝ }
 {
-    let v = exchange::station_place(file, k, name);
-    *out = [
-        v.number,
-        v.line,
-        v.column,
-        v.place.start as u64,
-        v.place.len as u64,
-    ];
-    v.number
+    let at = exchange::station_place(file, k, name);
+    *out = place_numbers(at);
+    at.number
 }
 
 // Makes one correction in the file: number, line, column.
