@@ -7,36 +7,37 @@ use native.Mathlib.Omega.{arith}
 use lib.ListN.{length, drop, replicate, length-append, length-take, length-drop, length-map}
 use lib.Dec.{ltb}
 use borrow.Author.Tests.{ne-eqb}
-use Rattle.text.specs.declared.Span.{Span}
-use Rattle.text.specs.Names.{beginsCtd}
-use Rattle.exchange.specs.declared.Located.{Located}
-use Rattle.exchange.specs.Grid.{nowhere}
-use Rattle.exchange.specs.Columns.{kindOfName}
-use Rattle.exchange.specs.Places.{Table, Outcome, accepted, refused, outcomeOf}
-use Rattle.exchange.specs.Profiles.{grid}
-use Rattle.exchange.specs.Answers.{isThere, found, missed, askedBy, askedOf, cellPlace}
-use Rattle.exchange.specs.Located.{nameAt, flagColumn, hasFlag, flagPlace, locatedBy, locatedOf}
+use Rattle.bytes.specs.declared.Span.{Span}
+use Rattle.bytes.specs.Names.{beginsCtd}
+use Rattle.format.specs.declared.Located.{Located}
+use Rattle.format.specs.Grid.{nowhere}
+use Rattle.format.specs.Columns.{kindOfName}
+use Rattle.format.specs.Places.{Table, Outcome, accepted, refused, outcomeOf}
+use Rattle.format.specs.Profiles.{grid}
+use Rattle.format.specs.Answers.{isThere, found, missed, askedBy, askedOf, cellPlace}
+use Rattle.format.specs.Located.{nameAt, flagColumn, hasFlag, flagPlace, locatedBy, locatedOf}
 use Rattle.laws.proofs.AskedLaws.{row-many}
 use Rattle.laws.proofs.FirstBrokenLaws.{checks-first}
 use Rattle.numbers.specs.Texts.{numberText, flagText, atRight}
 use Rattle.numbers.specs.Patches.{textAt}
 use Rattle.numbers.specs.Inner.Puts.{InCell}
 use Rattle.numbers.proofs.TextLaws.{number-some}
-use Rattle.exchange.proofs.CellLaws.{Inside as There}
+use Rattle.format.proofs.InsideLaws.{Inside as There}
 use Rattle.laws.proofs.AskedLaws.{there-inside}
-use Rattle.correction.specs.declared.Answer.the-variants.{Applied, Refused}
+use Rattle.orders.specs.declared.Answer.the-variants.{Applied, Refused}
 use Rattle.correction.specs.declared.deciding.Decision.{Decision}
 use Rattle.correction.specs.declared.writing.CellPlaces.{CellPlaces}
-use Rattle.correction.specs.declared.Order.{Order}
-use Rattle.correction.specs.Corrections.{entry, noSuchCell, badFlag, anyLonger, textTooLong, test, testsOf, ownText, answerBy, answerOf, Fill, fill, fillAt, fillsBy, fillsOf, filled, correctedOf}
+use Rattle.orders.specs.declared.Order.{Order}
+use Rattle.orders.specs.Corrections.{entry, noSuchCell, badFlag, anyLonger, textTooLong, test, testsOf, ownText, answerBy, answerOf, Fill, fill, fillAt, fillsBy, fillsOf, filled, correctedOf}
 use Rattle.correction.specs.Inner.Writing.{Writes, fillsAt}
 use Rattle.correction.specs.Inner.Deciding.{firstNumber, testsAt, Decides}
-use Rattle.correction.proofs.FlagLaws.{flag-in}
-use Rattle.correction.proofs.GeometryLaws.{shape, begin, widthAt, width-cell, Inside, inside-of}
-use Rattle.correction.proofs.TestLaws.{first-here, first-later, byNumber, first-number}
-use Rattle.correction.proofs.PlanLaws.{span-inside, place-shape, text-place, lineOf, answer-view, decide}
-use Rattle.correction.proofs.FitLaws.{Asked, applied-asked, goods}
-use Rattle.correction.proofs.ColumnLaws.{flag-of}
+use Rattle.orders.proofs.FlagLaws.{flag-in}
+use Rattle.orders.proofs.GeometryLaws.{shape, begin, widthAt, width-cell, Inside, inside-of}
+use Rattle.orders.proofs.TestLaws.{first-here, first-later}
+use Rattle.correction.proofs.FirstNumberLaws.{byNumber, first-number}
+use Rattle.orders.proofs.PlanLaws.{span-inside, place-shape, text-place, lineOf, answer-view, decide}
+use Rattle.orders.proofs.FitLaws.{Asked, applied-asked, goods}
+use Rattle.orders.proofs.ColumnLaws.{flag-of}
 
 -- ---- the file's refusal or 21; or the row and column are there
 pub record Here (f : List ℕ) (o : Order) (x : Located) : Type 0 where

@@ -10,11 +10,11 @@ use mir.Syntax.{w64}
 use mir.Val.{toZ, ofZ, SFits}
 use mir.ValLaws.{toZ-ofZ}
 use borrow.Author.Tests.{lt-ltb, le-ltb, ltb-false}
-use Rattle.text.specs.Judge.{inSet}
+use Rattle.verdicts.specs.Judge.{inSet}
 use Rattle.numbers.specs.Texts.{size, numberText, textLength}
 use Rattle.numbers.proofs.TextLaws.{length-is}
-use Rattle.correction.specs.declared.Order.{Order}
-use Rattle.correction.specs.Corrections.{badNumber, wrongFlag}
+use Rattle.orders.specs.declared.Order.{Order}
+use Rattle.orders.specs.Corrections.{badNumber, wrongFlag}
 use Rattle.correction.proofs.WriteLaws.{number-as}
 
 -- ---- 23, with the number's size n as the code has it

@@ -8,13 +8,13 @@ use lib.Signed.{ltZ}
 use mir.Syntax.{w64}
 use mir.Val.{toZ, ofZ, SFits}
 use mir.ValLaws.{toZ-ofZ}
-use Rattle.text.specs.declared.Span.{Span}
+use Rattle.bytes.specs.declared.Span.{Span}
 use Rattle.numbers.specs.Texts.{size, isBelow, textOf, numberText, flagText, atRight}
 use Rattle.numbers.specs.Patches.{patch, numberSet, digitSet}
 use Rattle.numbers.specs.Inner.Puts.{InCell}
 use Rattle.numbers.proofs.SizeLaws.{below-is}
 use Rattle.numbers.proofs.PatchLaws.{number-is, digit-is}
-use Rattle.correction.specs.Corrections.{fill, filled}
+use Rattle.orders.specs.Corrections.{fill, filled}
 
 -- a number by the code's sign and size
 module _ (m : ℤ) (d n : ℕ) (s : SFits w64 m) (e : n ≡ size (toZ w64 (ofZ w64 m))) where

@@ -1,5 +1,1 @@
-pub mod Corrections
-pub mod ListLines
-pub mod Demand3
-pub mod WrittenTexts
 pub mod Inner

@@ -1,12 +1,12 @@
 // A correction decided: the file's refusal or 21, then the rules 22 to 25 in number order. Nothing is written here.
 ghost use mathlib.Core.Path.{_≡_};
-ghost use Rattle.correction.specs.Corrections.{badNumber, wrongFlag};
+ghost use Rattle.orders.specs.Corrections.{badNumber, wrongFlag};
 ghost use Rattle.correction.specs.Inner.Deciding.{firstNumber, testsAt, Decides};
-use crate::Order;
 use crate::writing::CellPlaces;
 use exchange::Located;
 use numbers::size_of;
 use numbers::text_length;
+use orders::Order;
 use text::last_place;
 use text::limits;
 use text::refusals;

@@ -1,11 +1,11 @@
 // The cells of a measurement written: its value's text and its flag's digit, each at the right of its cell, spaces to the left.
 ghost use mathlib.Core.Path.{_≡_};
-ghost use Rattle.correction.specs.Corrections.{filled};
+ghost use Rattle.orders.specs.Corrections.{filled};
 ghost use Rattle.correction.specs.Inner.Writing.{Writes, fillsAt};
-use crate::Order;
 use numbers::set_digit;
 use numbers::set_number;
 use numbers::size_of;
+use orders::Order;
 use text::Span;
 
 // Where a measurement's cells stand, with their spaces: its value's, and its flag's if there is one.

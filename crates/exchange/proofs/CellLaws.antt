@@ -1,206 +1,94 @@
 -- A row and a column asked for.
-use Prim.Native.Nat.{ℕ, _+_, _-_, _≤_, _<_}
+use Prim.Native.Nat.{ℕ, _+_, _-_, _≤_}
 use mathlib.Core.Path.{_≡_, refl, sym, ap, subst, _∙_}
 use mathlib.Core.List.{List, [], _∷_}
-use mathlib.Core.Bool.{Bool, true, false, cond, _&&_, _||_}
+use mathlib.Core.Bool.{true, false, _||_}
 use native.Mathlib.Omega.{arith}
-use lib.ListN.{length, getD, drop}
-use lib.Seq.{getD-take}
-use lib.Dec.{eqb, leb, ltb}
-use borrow.Author.Tests.{lt-leb, le-leb, ltb-true, ltb-false}
-use Rattle.text.specs.declared.Span.{Span}
-use Rattle.text.specs.declared.Judged.{Judged}
+use lib.ListN.{length, getD}
+use lib.Dec.{eqb}
+use Rattle.bytes.specs.declared.Span.{Span}
+use Rattle.verdicts.specs.declared.Judged.{Judged}
 use Rattle.text.specs.declared.Reading.{Reading}
 use Rattle.text.specs.declared.Reading.the-variants.{Refused}
-use Rattle.text.specs.Spaces.{trimSpan}
-use Rattle.text.specs.Verdicts.{Verdict, blank, wrong, outOfRange, good, sizeOf}
-use Rattle.text.specs.Kinds.{kindOf}
-use Rattle.text.specs.Judge.{judge, judgedOf, judgedAt}
+use Rattle.bytes.specs.Spaces.{trimSpan}
+use Rattle.verdicts.specs.Verdicts.{sizeOf}
+use Rattle.verdicts.specs.Kinds.{kindOf}
+use Rattle.verdicts.specs.Judge.{judge, judgedOf, judgedAt}
 use Rattle.text.specs.Reading.{readingOf, readingAt}
-use Rattle.text.proofs.JudgeLaws.{judged-stop}
-use Rattle.text.proofs.SpaceLaws.{span-fits}
-use Rattle.text.specs.Cells.{pieces, lineAt, cellAt, cellEnd}
-use Rattle.text.specs.Inner.Scans.{Stop}
-use Rattle.text.proofs.CellLaws.{stop-moved}
-use Rattle.exchange.specs.declared.table.FileTable.{FileTable}
+use Rattle.verdicts.proofs.JudgeLaws.{judged-stop}
+use Rattle.bytes.proofs.SpaceLaws.{span-fits}
+use Rattle.bytes.specs.Cells.{lineAt, cellAt, cellEnd}
+use Rattle.bytes.proofs.CellLaws.{stop-moved}
 use Rattle.exchange.specs.declared.cells.Cell.{Cell}
-use Rattle.exchange.specs.declared.Flagged.{Flagged}
-use Rattle.exchange.specs.declared.CellPlace.{CellPlace}
-use Rattle.exchange.specs.Columns.{namesOf}
-use Rattle.exchange.specs.Places.{Table, accepted, outcomeOf}
-use Rattle.exchange.specs.Grid.{spanIn}
-use Rattle.exchange.specs.Inner.Grid.{lineStart, cellSpan}
-use Rattle.exchange.specs.Inner.Top.{sortOf}
-use Rattle.exchange.specs.Inner.Table.{FileRead, TableRead}
-use Rattle.exchange.specs.Answers.{Asked, found, missed, askedBy, askedOf, kindAt, rowCells, cellText, cellPlace, cellBy, cellOf, refusalBy, placeBy, placeFor, readingBy, readingFor, flaggedBy, flaggedOf}
-use Rattle.exchange.specs.Located.{flagColumn}
+use Rattle.format.specs.declared.Flagged.{Flagged}
+use Rattle.format.specs.declared.CellPlace.{CellPlace}
+use Rattle.format.specs.declared.Opened.{Opened}
+use Rattle.format.specs.Grid.{spanIn}
+use Rattle.format.specs.Opened.{openedOf}
+use Rattle.format.specs.Inner.Grid.{lineStart, cellSpan}
+use Rattle.format.specs.Answers.{Asked, found, missed, askedBy, askedOf, kindAt, rowCells, cellText, cellPlace, cellBy, cellOf, refusalBy, placeBy, placeFor, readingBy, readingFor, flaggedBy, flaggedOf}
+use Rattle.columns.specs.Inner.NamesLine.{kindInLine}
 use Rattle.exchange.specs.Inner.Cells.{CellRead, AskedRead}
-use Rattle.exchange.proofs.GridLaws.{RowAt, row-at, SpanAt, span-at}
+use Rattle.format.proofs.GridLaws.{RowAt, SpanAt, span-at}
+use Rattle.format.proofs.InsideLaws.{outside, Inside, inside-by, asked-inside, asked-outside}
+use Rattle.format.proofs.OpenedLaws.{OpenedTable, opened-refused, opened-table, row-found}
+use Rattle.format.proofs.VerdictLaws.{reading-anywhere, size-anywhere}
+use Rattle.columns.proofs.AskedLaws.{kind-asked}
 
--- ---- the code's test
-abbrev pub outside : ℕ → ℕ → ℕ → ℕ → Bool
-outside r n c m = ltb r 1 || ltb n r || ltb c 1 || ltb m c
-
-pub record Inside (r n c m : ℕ) : Type 0 where
-  pub row : 1 ≤ r
-  pub rows : r ≤ n
-  pub column : 1 ≤ c
-  pub columns : c ≤ m
-
-module _ (r n c m : ℕ) where
-  pub inside-by : outside r n c m ≡ false → Inside r n c m
-  inside-by e = go (ltb r 1) (ltb n r) (ltb c 1) (ltb m c) refl refl refl refl e
-    where
-      go : (p q u v : Bool) → ltb r 1 ≡ p → ltb n r ≡ q → ltb c 1 ≡ u → ltb m c ≡ v → (p || q || u || v) ≡ false → Inside r n c m
-      go false false false false a b d f e = record { row = ltb-false r 1 a; rows = ltb-false n r b; column = ltb-false c 1 d; columns = ltb-false m c f }
-      go true q u v a b d f e = let z : _≡_ {A = ℕ} 0 1 = cc in absurd (omega arith)
-      go false true u v a b d f e = let z : _≡_ {A = ℕ} 0 1 = cc in absurd (omega arith)
-      go false false true v a b d f e = let z : _≡_ {A = ℕ} 0 1 = cc in absurd (omega arith)
-      go false false false true a b d f e = let z : _≡_ {A = ℕ} 0 1 = cc in absurd (omega arith)
-
-module _ (r n c : ℕ) (t : Table) where
-  pub asked-inside : Inside r n c (length (t .names)) → askedBy r c (accepted t n) ≡ found t
-  asked-inside h = rw (le-leb 1 r (h .row), le-leb r n (h .rows), le-leb 1 c (h .column), le-leb c (length (t .names)) (h .columns))
-
-  pub asked-outside : outside r n c (length (t .names)) ≡ true → askedBy r c (accepted t n) ≡ missed 21 0 0
-  asked-outside e = go (ltb r 1) (ltb n r) (ltb c 1) (ltb (length (t .names)) c) refl refl refl refl e
-    where
-      none : (p q u v : Bool) → (p && q && (u && v)) ≡ false → cond (p && q && (u && v)) (found t) (missed 21 0 0) ≡ missed 21 0 0
-      none p q u v e = rw e
-
-      one : (p q u v : Bool) → p ≡ false → (p && q && (u && v)) ≡ false
-      one p q u v e = rw e
-
-      two : (p q u v : Bool) → q ≡ false → (p && q && (u && v)) ≡ false
-      two true q u v e = rw e
-      two false q u v e = refl
-
-      three : (p q u v : Bool) → u ≡ false → (p && q && (u && v)) ≡ false
-      three true true u v e = rw e
-      three true false u v e = refl
-      three false q u v e = refl
-
-      four : (p q u v : Bool) → v ≡ false → (p && q && (u && v)) ≡ false
-      four true true true v e = e
-      four true true false v e = refl
-      four true false u v e = refl
-      four false q u v e = refl
-
-      m : ℕ
-      m = length (t .names)
-
-      go : (p q u v : Bool) → ltb r 1 ≡ p → ltb n r ≡ q → ltb c 1 ≡ u → ltb (length (t .names)) c ≡ v → (p || q || u || v) ≡ true → askedBy r c (accepted t n) ≡ missed 21 0 0
-      go true q u v a b d f e = none (leb 1 r) (leb r n) (leb 1 c) (leb c m) (one (leb 1 r) (leb r n) (leb 1 c) (leb c m) (lt-leb 1 r (ltb-true r 1 a)))
-      go false true u v a b d f e = none (leb 1 r) (leb r n) (leb 1 c) (leb c m) (two (leb 1 r) (leb r n) (leb 1 c) (leb c m) (lt-leb r n (ltb-true n r b)))
-      go false false true v a b d f e = none (leb 1 r) (leb r n) (leb 1 c) (leb c m) (three (leb 1 r) (leb r n) (leb 1 c) (leb c m) (lt-leb 1 c (ltb-true c 1 d)))
-      go false false false true a b d f e = none (leb 1 r) (leb r n) (leb 1 c) (leb c m) (four (leb 1 r) (leb r n) (leb 1 c) (leb c m) (lt-leb c m (ltb-true m c f)))
-      go false false false false a b d f e = let z : _≡_ {A = ℕ} 0 1 = cc in absurd (omega arith)
-
--- ---- the refusals
-module _ (s : List ℕ) (r c : ℕ) (v : FileTable) (w : FileRead s v) (x : Cell) where
-  pub ask-refused : (v .number ≡ 0 → ⊥) → (x .number ≡ v .number) × (x .line ≡ v .line) × (x .column ≡ v .column) → AskedRead s r c x
+module _ (s : List ℕ) (r c : ℕ) (o : Opened) (q : o ≡ openedOf s) where
+  -- ---- the refusals
+  pub ask-refused : (x : Cell) → (o .checked .number ≡ 0 → ⊥) → (x .number ≡ o .checked .number) × (x .line ≡ o .checked .line) × (x .column ≡ o .checked .column) → AskedRead s r c x
   unfolding askedOf
-  ask-refused z e = record { stop = λ y. rw (e .0, e .1, e .2) (ap (askedBy r c) (w .stop z)); on = λ y. absurd (z (sym (e .0) ∙ y)) }
+  ask-refused x z e = record { stop = λ y. rw (e .0, e .1, e .2) (ap (askedBy r c) (opened-refused s o q z)); on = λ y. absurd (z (sym (e .0) ∙ y)) }
 
-  pub ask-missed : v .number ≡ 0 → outside r (v .rows) c (v .columns) ≡ true → (x .number ≡ 21) × (x .line ≡ 0) × (x .column ≡ 0) → AskedRead s r c x
-  unfolding askedOf
-  ask-missed z o e =
-      let t = w .on z in
-      let m = t .2 .many in
-      record {
-        stop = λ y. rw (e .0, e .1, e .2) (ap (askedBy r c) (t .1) ∙ asked-outside r (v .rows) c (t .0) (subst (λ (k : ℕ). outside r (v .rows) c k ≡ true) m o));
-        on = λ y. absurd (omega (arith, e .0, y));
-      }
+  module _ (z : o .checked .number ≡ 0) where
+    w : OpenedTable s o
+    w = opened-table s o q z
 
--- ---- row j, from 0
-pub row-found : (s : List ℕ) (v : FileTable) (w : FileRead s v) (z : v .number ≡ 0) (j : ℕ) → j < v .rows → RowAt s (w .on z .0) j (lineStart s (v .data) j)
-row-found s v w z j h =
-    let t = w .on z in
-    let e : t .0 .line + 1 - 1 ≡ t .0 .line = omega arith in
-    row-at s (t .0) (v .rows) (v .data) j (t .1) (t .2 .inside) (t .2 .starts ∙ ap (λ (k : ℕ). drop k (pieces 10 s)) e) h
+    pub ask-missed : (x : Cell) → outside r (o .checked .rows) c (o .checked .columns) ≡ true → (x .number ≡ 21) × (x .line ≡ 0) × (x .column ≡ 0) → AskedRead s r c x
+    unfolding askedOf
+    ask-missed x b e = record {
+      stop = λ y. rw (e .0, e .1, e .2)
+          (ap (askedBy r c) (w .is) ∙ asked-outside r (o .checked .rows) c (w .table) (subst (λ (k : ℕ). outside r (o .checked .rows) c k ≡ true) (w .columns) b));
+      on = λ y. absurd (omega (arith, e .0, y));
+    }
 
--- ---- the cell
-module _ (s : List ℕ) (r c : ℕ) (v : FileTable) (w : FileRead s v) (z : v .number ≡ 0) (o : outside r (v .rows) c (v .columns) ≡ false) where
-  pub ask-data : v .data ≤ length s
-  ask-data = w .on z .2 .inside
+    -- ---- the cell
+    module _ (b : outside r (o .checked .rows) c (o .checked .columns) ≡ false) where
+      there : Inside r (o .checked .rows) c (length (w .table .names))
+      there = subst (λ (m : ℕ). Inside r (o .checked .rows) c m) (w .columns) (inside-by r (o .checked .rows) c (o .checked .columns) b)
 
-  within : Inside r (v .rows) c (v .columns)
-  within = inside-by r (v .rows) c (v .columns) o
+      pub ask-found : (at e k : ℕ) (p : Span) → at ≡ lineStart s (o .first) (r - 1) → e ≡ at + length (lineAt s at) → k ≡ kindInLine (lineAt s (o .names)) c → p ≡ cellSpan s at (c - 1)
+          → AskedRead s r c (record { number = 0; line = 0; column = 0; kind = k; start = p .start; len = p .len; at = at; feed = e; names = o .names })
+      unfolding askedOf
+      ask-found at e k p ea ee ek ep = record { stop = λ y. absurd (y refl); on = λ y. (w .table, cell) }
+        where
+          row : RowAt s (w .table) (r - 1) at
+          row = subst (RowAt s (w .table) (r - 1)) (sym ea) (row-found w (r - 1) (omega (arith, there .row, there .rows)))
 
-  pub ask-row : RowAt s (w .on z .0) (r - 1) (lineStart s (v .data) (r - 1))
-  ask-row = row-found s v w z (r - 1) (omega (arith, within .row, within .rows))
+          span : SpanAt s at (at + length (lineAt s at)) (c - 1)
+          span = span-at (c - 1) s at _ (row .feed) (omega (arith, there .column, there .columns, row .many))
 
-  pub ask-span : SpanAt s (lineStart s (v .data) (r - 1)) (lineStart s (v .data) (r - 1) + length (lineAt s (lineStart s (v .data) (r - 1)))) (c - 1)
-  ask-span = span-at (c - 1) s _ _ (ask-row .feed) (omega (arith, within .column, within .columns, w .on z .2 .many, ask-row .many))
+          place : (k : ℕ) → cellSpan s at (k - 1) ≡ cellPlace (w .table) s r k
+          place k = ap (λ (ts : List (List ℕ)). spanIn at ts (k - 1)) (row .cells) ∙ ap (λ (j : ℕ). spanIn j (rowCells (w .table) s r) (k - 1)) (row .place)
 
-  pub ask-found : (at e : ℕ) (p : Span) → at ≡ lineStart s (v .data) (r - 1) → e ≡ at + length (lineAt s at) → p ≡ cellSpan s at (c - 1)
-      → AskedRead s r c (record { number = 0; line = 0; column = 0; kind = getD (v .kinds) (c - 1) 0; start = p .start; len = p .len; at = at; feed = e; flag = getD (v .flags) (c - 1) 0; names = v .names })
-  unfolding askedOf flagColumn
-  ask-found at e p ea ee ep = record { stop = λ y. absurd (y refl); on = λ y. (t .0, cell) }
-    where
-      x : Cell
-      x = record { number = 0; line = 0; column = 0; kind = getD (v .kinds) (c - 1) 0; start = p .start; len = p .len; at = at; feed = e; flag = getD (v .flags) (c - 1) 0; names = v .names }
+          start-is : p .start ≡ cellSpan s at (c - 1) .start
+          start-is = ap (λ (y : Span). y .start) ep
 
-      t : (t : Table) × (outcomeOf s ≡ accepted t (v .rows)) × TableRead s t v × (t .sort ≡ sortOf (v .kind)) × (t .names ≡ namesOf (lineAt s (v .names)))
-      t = w .on z
-
-      i : ℕ
-      i = lineStart s (v .data) (r - 1)
-
-      place : (k : ℕ) → cellSpan s i (k - 1) ≡ cellPlace (t .0) s r k
-      place k = ap (λ (ts : List (List ℕ)). spanIn i ts (k - 1)) (ask-row .cells) ∙ ap (λ (j : ℕ). spanIn j (rowCells (t .0) s r) (k - 1)) (ask-row .place)
-
-      span : p ≡ cellSpan s i (c - 1)
-      span = ep ∙ ap (λ (k : ℕ). cellSpan s k (c - 1)) ea
-
-      far : e ≡ i + length (lineAt s i)
-      far = ee ∙ ap (λ (k : ℕ). k + length (lineAt s k)) ea
-
-      start-is : p .start ≡ cellSpan s i (c - 1) .start
-      start-is = ap (λ (q : Span). q .start) span
-
-      stop-is : Stop 44 s (cellSpan s i (c - 1) .start) (i + length (lineAt s i))
-      stop-is = stop-moved (ask-row .feed) (ask-span .inside)
-
-      kind-is : getD (v .kinds) (c - 1) 0 ≡ kindAt (t .0) c
-      kind-is = sym (getD-take (v .columns) (v .kinds) (c - 1) 0 (omega (arith, within .column, within .columns))) ∙ ap (λ (ks : List ℕ). getD ks (c - 1) 0) (t .2 .kinds)
-
-      flag-is : getD (v .flags) (c - 1) 0 ≡ flagColumn (t .0) c
-      flag-is = sym (getD-take (v .columns) (v .flags) (c - 1) 0 (omega (arith, within .column, within .columns))) ∙ ap (λ (fs : List ℕ). getD fs (c - 1) 0) (t .2 .flags)
-
-      there : Inside r (v .rows) c (length (t .0 .names))
-      there = subst (λ (m : ℕ). Inside r (v .rows) c m) (t .2 .many) within
-
-      cell : CellRead s r c (t .0) x
-      cell = record {
-        asked = ap (askedBy r c) (t .1) ∙ asked-inside r (v .rows) c (t .0) there;
-        kind = kind-is;
-        start = start-is ∙ ap (λ (q : Span). q .start) (place c);
-        len = ap (λ (q : Span). q .len) (span ∙ place c);
-        stop = rw (start-is, far) stop-is;
-        text = ap (cellAt 44 s) start-is ∙ ask-span .text ∙ ap (λ (ts : List (List ℕ)). getD ts (c - 1) []) (ask-row .cells);
-        room = omega (arith, start-is, ap (λ (q : Span). q .len) span, ask-span .room, ask-row .feed .room);
-        within = (there .column, there .columns);
-        row = rw (ea, far) (ask-row .feed);
-        cells = λ k. ap (λ (j : ℕ). cellSpan s j (k - 1)) ea ∙ place k;
-        flag = flag-is;
-        names = t .4;
-        fed = w .fed z;
-      }
-
--- ---- the calls
-reading-anywhere : (k n : ℕ) (v : Verdict) → readingOf k (judgedOf n v) ≡ readingOf k (judgedOf 0 v)
-unfolding readingOf
-reading-anywhere k n blank = refl
-reading-anywhere k n wrong = refl
-reading-anywhere k n outOfRange = refl
-reading-anywhere k n (good m v d) = refl
-
-pub size-anywhere : (n : ℕ) (v : Verdict) → judgedOf n v .size ≡ sizeOf v
-size-anywhere n blank = refl
-size-anywhere n wrong = refl
-size-anywhere n outOfRange = refl
-size-anywhere n (good m v d) = refl
+          cell : CellRead s r c (w .table) (record { number = 0; line = 0; column = 0; kind = k; start = p .start; len = p .len; at = at; feed = e; names = o .names })
+          cell = record {
+            asked = ap (askedBy r c) (w .is) ∙ asked-inside r (o .checked .rows) c (w .table) there;
+            kind = ek ∙ kind-asked (w .table) (lineAt s (o .names)) (w .named .names-are) c (there .column) (there .columns);
+            start = start-is ∙ ap (λ (y : Span). y .start) (place c);
+            len = ap (λ (y : Span). y .len) (ep ∙ place c);
+            stop = rw (start-is, ee) (stop-moved (row .feed) (span .inside));
+            text = ap (cellAt 44 s) start-is ∙ span .text ∙ ap (λ (ts : List (List ℕ)). getD ts (c - 1) []) (row .cells);
+            room = omega (arith, start-is, ap (λ (y : Span). y .len) ep, span .room, row .feed .room);
+            within = (there .column, there .columns);
+            cells = place;
+            names = w .named .names-are;
+            inside = w .names .inside;
+          }
 
 module _ (s : List ℕ) (r c : ℕ) (x : Cell) (w : AskedRead s r c x) where
   module _ (z : x .number ≡ 0 → ⊥) where

@@ -1,143 +1,28 @@
 // A WHP-Exchange file: the check, and the calls that read its cells, decimals, flags and profiles.
 ghost use mathlib.Core.Path.{_≡_};
-ghost use Rattle.text.specs.Spaces.{IsPart};
-ghost use Rattle.exchange.specs.Answers.{checkedOf, cellOf, refusalBy, askedOf, placeFor, readingFor, flaggedOf};
-ghost use Rattle.exchange.specs.Located.{locatedOf};
-ghost use Rattle.exchange.specs.Records.{profileOf, stationedOf, stationPlace, stationRefusal, noPlace, stationAnswer};
+ghost use Rattle.bytes.specs.Spaces.{IsPart};
+ghost use Rattle.format.specs.Answers.{cellOf, refusalBy, askedOf, placeFor, readingFor, flaggedOf};
+ghost use Rattle.format.specs.Located.{locatedOf};
+use columns::flag_column;
+use lines::grid::no_place;
 use text::Reading;
 use text::Span;
 use text::kinds;
 use text::refusals;
 
 mod cells;
-mod columns;
-mod grid;
-mod headers;
-mod lines;
-mod names;
-mod profiles;
-mod rows;
-mod table;
-mod top;
-mod values;
 
-// The kind of a file.
-pub enum FileKind {
-    Unknown,
-    Bottle,
-    Ctd,
-}
-
-// The check's answer: accepted with its counts where the number is 0, else refused at line and column.
-pub struct Checked {
-    pub number: u64,
-    pub line: u64,
-    pub column: u64,
-    pub kind: FileKind,
-    pub columns: u64,
-    pub rows: u64,
-    pub profiles: u64,
-    pub missing: u64,
-}
-
-// A flag, or the refusal.
-pub struct Flagged {
-    pub number: u64,
-    pub line: u64,
-    pub column: u64,
-    pub flag: u64,
-}
-
-// When a cast was made.
-pub enum CastTime {
-    Given { hour: u64, minute: u64 },
-    Missing,
-}
-
-// A profile's record where the number is 0, else the refusal.
-pub struct ProfileRecord {
-    pub number: u64,
-    pub line: u64,
-    pub column: u64,
-    pub time: CastTime,
-    pub first: u64,
-    pub rows: u64,
-    pub castno: u64,
-    pub date: u64,
-}
-
-// Where a trimmed text stands in the file; or the refusal, with the empty place at the file's start.
-pub struct CellPlace {
-    pub number: u64,
-    pub line: u64,
-    pub column: u64,
-    pub place: Span,
-}
-
-// Where the cells of a measurement stand, with their spaces, and what column they are of; or the refusal.
-pub struct Located {
-    pub number: u64,
-    pub line: u64,
-    pub column: u64,
-    pub value: Span,
-    pub measured: bool,
-    pub ctd: bool,
-    pub flagged: bool,
-    pub flag: Span,
-}
-
-// Checks a file.
-pub fn check(file: &[u8]) -> Checked
-    ensures { λ r. ⌜ r ≡ checkedOf (now (file .entry)) ⌝ }
-{
-    let v = table::table_of(file);
-    if v.number != 0 {
-        return Checked {
-            number: v.number,
-            line: v.line,
-            column: v.column,
-            kind: FileKind::Unknown,
-            columns: 0,
-            rows: 0,
-            profiles: 0,
-            missing: 0,
-        };
-    }
-    if v.kind == top::BOTTLE {
-        return Checked {
-            number: 0,
-            line: 0,
-            column: 0,
-            kind: FileKind::Bottle,
-            columns: v.columns as u64,
-            rows: v.rows,
-            profiles: v.profiles,
-            missing: v.missing,
-        };
-    }
-    Checked {
-        number: 0,
-        line: 0,
-        column: 0,
-        kind: FileKind::Ctd,
-        columns: v.columns as u64,
-        rows: v.rows,
-        profiles: 1,
-        missing: v.missing,
-    }
-}
-
-// A refusal, with the empty place at the file's start.
-fn no_place(number: u64, line: u64, column: u64) -> CellPlace
-    ensures { λ r. ⌜ r ≡ noPlace number line column ⌝ }
-{
-    CellPlace {
-        number,
-        line,
-        column,
-        place: Span { start: 0, len: 0 },
-    }
-}
+pub use format::CastTime;
+pub use format::CellPlace;
+pub use format::Checked;
+pub use format::FileKind;
+pub use format::Flagged;
+pub use format::Located;
+pub use format::ProfileRecord;
+pub use profiles::profile;
+pub use profiles::station;
+pub use profiles::station_place;
+pub use rules::check;
 
 // The place of a trimmed cell.
 pub fn cell_place(file: &[u8], row: u64, column: u64) -> CellPlace
@@ -229,6 +114,7 @@ pub fn locate(file: &[u8], row: u64, column: u64) -> Located
             flag: Span { start: 0, len: 0 },
         };
     }
+    let flag = flag_column(file, a.names, column);
     Located {
         number: 0,
         line: 0,
@@ -239,71 +125,7 @@ pub fn locate(file: &[u8], row: u64, column: u64) -> Located
         },
         measured: a.kind == kinds::MEASURED,
         ctd: cells::is_ctd(file, a.names, (column - 1) as usize),
-        flagged: 0 < a.flag,
-        flag: cells::place_in(file, a.at, a.feed, a.flag as usize),
+        flagged: 0 < flag,
+        flag: cells::place_in(file, a.at, flag),
     }
-}
-
-// The record of profile k.
-pub fn profile(file: &[u8], k: u64) -> ProfileRecord
-    ensures { λ r. ⌜ r ≡ profileOf (now (file .entry)) k ⌝ }
-{
-    let p = profiles::profile_at(file, k);
-    if p.number != 0 {
-        return ProfileRecord {
-            number: p.number,
-            line: p.line,
-            column: p.column,
-            time: CastTime::Missing,
-            first: 0,
-            rows: 0,
-            castno: 0,
-            date: 0,
-        };
-    }
-    let time = profiles::station_value(file, p, b"TIME");
-    let castno = profiles::station_value(file, p, b"CASTNO");
-    let date = profiles::station_value(file, p, b"DATE");
-    ProfileRecord {
-        number: 0,
-        line: 0,
-        column: 0,
-        time: values::time_in(file, time),
-        first: p.first,
-        rows: p.rows,
-        castno: values::number_in(file, castno, kinds::CASTNO),
-        date: values::number_in(file, date, kinds::DATE),
-    }
-}
-
-// Where a station value of profile k stands, by its name: trimmed; for other languages.
-pub fn station_place<'a>(file: &'a [u8], k: u64, name: &'a [u8]) -> CellPlace
-    ensures { λ r. ⌜ r ≡ stationAnswer (now (file .entry)) (stationedOf (now (file .entry)) k (now (name .entry))) ⌝ }
-{
-    let p = profiles::profile_at(file, k);
-    if p.number != 0 {
-        return no_place(p.number, p.line, p.column);
-    }
-    let v = profiles::station_value(file, p, name);
-    if !v.found {
-        return no_place(refusals::NO_SUCH_PLACE, 0, 0);
-    }
-    CellPlace {
-        number: 0,
-        line: 0,
-        column: 0,
-        place: text::trim_span(file, v.start, v.start + v.len),
-    }
-}
-
-// A station value of profile k by its name: the trimmed part of the file itself; refusal gets number, line and column.
-pub fn station<'a>(file: &'a [u8], k: u64, name: &'a [u8], refusal: &mut [u64; 3]) -> &'a [u8]
-    ensures { λ r. ⌜ IsPart (file .entry) r (stationPlace (now (file .entry)) (stationedOf (now (file .entry)) k (now (name .entry)))) ⌝ }
-    ensures { λ r. ⌜ now (refusal .exit) ≡ stationRefusal (stationedOf (now (file .entry)) k (now (name .entry))) ⌝ }
-{
-    let r = station_place(file, k, name);
-    *refusal = [r.number, r.line, r.column];
-    let b = r.place.start;
-    let n = r.place.len;
-    &file[b..b + n]
 }

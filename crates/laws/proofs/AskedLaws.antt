@@ -10,28 +10,28 @@ use lib.ListN.{length, getD, drop, length-drop, length-map}
 use lib.Seq.{getD-take, getD-drop, length-take-le}
 use lib.Dec.{eqb, leb}
 use borrow.Author.Tests.{le-leb, leb-true, eqb-true, eqb-false, ne-eqb}
-use Rattle.text.specs.Cells.{pieces}
-use Rattle.text.specs.Verdicts.{Verdict, blank, wrong, outOfRange, good, millionthsOf}
-use Rattle.text.specs.Kinds.{Kind, measured, latitude, longitude, depth, flag, ctdFlag, expocode, stnnbr, castno, date, time, free, kindOf}
-use Rattle.text.specs.Judge.{judge, ofKind, inSet, inFlags, wholeOf, unlessBlank}
+use Rattle.bytes.specs.Cells.{pieces}
+use Rattle.verdicts.specs.Verdicts.{Verdict, blank, wrong, outOfRange, good, millionthsOf}
+use Rattle.verdicts.specs.Kinds.{Kind, measured, latitude, longitude, depth, flag, ctdFlag, expocode, stnnbr, castno, date, time, free, kindOf}
+use Rattle.verdicts.specs.Judge.{judge, ofKind, inSet, inFlags, wholeOf, unlessBlank}
 use Rattle.text.specs.Reading.{readNumber, isDecimal, readingOf}
-use Rattle.text.specs.Spaces.{trim}
-use Rattle.text.proofs.DecimalLaws.{Small}
-use Rattle.text.proofs.JudgeLaws.{judge-small}
-use Rattle.text.proofs.KindLaws.{set-parts}
-use Rattle.exchange.specs.declared.Flagged.{Flagged}
-use Rattle.exchange.specs.Faults.{Fault, clean, breaks, _then_, unless, kindFault, firstOf}
-use Rattle.exchange.specs.Columns.{kindOfName, kindsOf}
-use Rattle.exchange.specs.Rows.{cellRules, rowRules}
-use Rattle.exchange.specs.Places.{Table, accepted, outcomeOf}
-use Rattle.exchange.specs.Inner.Faults.{cellFault, rowFault}
-use Rattle.exchange.specs.Profiles.{grid}
-use Rattle.exchange.specs.Answers.{isThere, found, missed, askedBy, askedOf, kindAt, rowsIn, rowCells, cellText, cellBy, cellOf, refusalBy, readingBy, readingFor, flaggedBy, flaggedOf}
+use Rattle.bytes.specs.Spaces.{trim}
+use Rattle.verdicts.proofs.SizeLaws.{Small}
+use Rattle.verdicts.proofs.JudgeLaws.{judge-small}
+use Rattle.verdicts.proofs.KindLaws.{set-parts}
+use Rattle.format.specs.declared.Flagged.{Flagged}
+use Rattle.format.specs.Faults.{Fault, clean, breaks, _then_, unless, kindFault, firstOf}
+use Rattle.format.specs.Columns.{kindOfName, kindsOf}
+use Rattle.format.specs.Rows.{cellRules, rowRules}
+use Rattle.format.specs.Places.{Table, accepted, outcomeOf}
+use Rattle.format.specs.Inner.Faults.{cellFault, rowFault}
+use Rattle.format.specs.Profiles.{grid}
+use Rattle.format.specs.Answers.{isThere, found, missed, askedBy, askedOf, kindAt, rowsIn, rowCells, cellText, cellBy, cellOf, refusalBy, readingBy, readingFor, flaggedBy, flaggedOf}
 use Rattle.laws.specs.Promises.{columnKind, cellVerdict, IsFlag, Refuses, GivesFlag, Answers, AskedExactly}
-use Rattle.exchange.proofs.AcceptLaws.{rows-kept}
-use Rattle.exchange.proofs.GridLaws.{getD-mapped, cells-many}
-use Rattle.text.proofs.CellLaws.{both-true}
-use Rattle.exchange.proofs.CellLaws.{Inside}
+use Rattle.format.proofs.AcceptLaws.{rows-kept}
+use Rattle.format.proofs.GridLaws.{getD-mapped, cells-many}
+use Rattle.bytes.proofs.CellLaws.{both-true}
+use Rattle.format.proofs.InsideLaws.{Inside}
 
 -- ---- the cells of an accepted file are good
 pub record Good (v : Verdict) : Type 0 where

@@ -8,22 +8,23 @@ use native.Mathlib.Omega.{arith}
 use lib.ListN.{length, getD, take}
 use lib.Dec.{leb, ltb}
 use borrow.Author.Tests.{lt-ltb, le-ltb, ltb-true, ltb-false}
-use Rattle.text.specs.Cells.{pieces}
-use Rattle.exchange.specs.Faults.{Fault, clean, breaks, _then_, firstOf, unless}
-use Rattle.exchange.specs.LineRules.{unendedRules}
-use Rattle.exchange.specs.Headers.{Header, headerOf, headersSaid}
-use Rattle.exchange.specs.Columns.{Sort, bottle, ctd}
-use Rattle.exchange.specs.Rows.{isEndData}
-use Rattle.exchange.specs.Places.{Table, Place, first, comments, headers, names, units, rows, after, stopped, isComment, rulesAt, lastPieceRules, endRules, dueHeaders, afterTop, nextPlace, stopAt, Outcome, accepted, refused, outcomeAt, last, run, outcomeOf}
-use Rattle.exchange.specs.declared.FileKind.the-variants.{Unknown}
-use Rattle.exchange.specs.declared.Checked.{Checked}
-use Rattle.exchange.specs.Answers.{kindBy, checkedBy, checkedOf}
+use Rattle.bytes.specs.Cells.{pieces}
+use Rattle.format.specs.Faults.{Fault, clean, breaks, _then_, firstOf, unless}
+use Rattle.format.specs.LineRules.{unendedRules}
+use Rattle.format.specs.Headers.{Header, headerOf, headersSaid}
+use Rattle.format.specs.Columns.{Sort, bottle, ctd}
+use Rattle.format.specs.Rows.{isEndData}
+use Rattle.format.specs.Places.{Table, Place, first, comments, headers, names, units, rows, after, stopped, isComment, rulesAt, lastPieceRules, endRules, dueHeaders, afterTop, nextPlace, stopAt, Outcome, accepted, refused, outcomeAt, last, run, outcomeOf}
+use Rattle.format.specs.declared.FileKind.the-variants.{Unknown}
+use Rattle.format.specs.declared.Checked.{Checked}
+use Rattle.format.specs.Answers.{kindBy, checkedBy, checkedOf}
 use Rattle.laws.specs.RuleOrder.{walk, linesIn, placeBefore, rulesOf}
 use Rattle.laws.specs.Promises.{Kept, Broken, FirstBroken, AllKept, ChecksFirst}
-use Rattle.exchange.proofs.RuleLaws.{Going, cut-rules}
-use Rattle.exchange.proofs.RunLaws.{run-stopped}
+use Rattle.format.proofs.RuleLaws.{Going, cut-rules}
+use Rattle.format.proofs.RunLaws.{run-stopped}
 use Rattle.laws.proofs.RuleOrderLaws.{first-kept, kept-first, first-broken, broken-first}
-use Rattle.laws.proofs.RuleNumberLaws.{Numbered, number-range, number-of}
+use Rattle.format.proofs.NumberLaws.{Numbered, number-range}
+use Rattle.laws.proofs.RuleNumberLaws.{number-of}
 
 -- ---- a place that is no refusal leads to another
 due-going : (due : ℕ) (hs : List Header) → Going (dueHeaders due hs)

@@ -15,8 +15,8 @@ use lib.Dec.{eqb}
 use lib.ListN.{length, getD, set, length-append}
 use lib.Seq.{lt-length-set, getD-set-same}
 use borrow.Author.Tests.{eqb-true, eq-eqb}
-use Rattle.text.specs.Cells.{firstPiece, laterPieces, pieces}
-use Rattle.exchange.specs.Grid.{starts}
+use Rattle.bytes.specs.Cells.{firstPiece, laterPieces, pieces}
+use Rattle.format.specs.Grid.{starts}
 use Rattle.laws.specs.Inner.Writes.{joinLater, join}
 
 -- every byte is other than c

@@ -8,10 +8,10 @@ use native.Mathlib.Omega.{arith}
 use lib.ListN.{length, getD}
 use lib.Dec.{eqb, ltb}
 use borrow.Author.Tests.{eqb-true, eqb-false, eq-eqb, ltb-true, ltb-false}
-use Rattle.text.specs.Bytes.{equal}
-use Rattle.text.proofs.CellLaws.{both-true}
-use Rattle.text.proofs.EqualLaws.{equal-refl, equal-same}
-use Rattle.exchange.specs.Profiles.{Key, sameKey, labelsFrom, bordersFrom, rowsOf}
+use Rattle.bytes.specs.Bytes.{equal}
+use Rattle.bytes.proofs.CellLaws.{both-true}
+use Rattle.bytes.proofs.EqualLaws.{equal-refl, equal-same}
+use Rattle.format.specs.Profiles.{Key, sameKey, labelsFrom, bordersFrom, rowsOf}
 
 -- each label is the one before or one more
 abbrev pub Climbs : ℕ → List ℕ → Type 0

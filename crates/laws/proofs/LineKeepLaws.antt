@@ -9,18 +9,18 @@ use mathlib.Core.List.{List, [], _∷_, _++_, append-nil}
 use native.Mathlib.Omega.{arith}
 use lib.Dec.{eqb}
 use lib.ListN.{length, getD, set}
-use Rattle.text.specs.declared.Found.{Found}
-use Rattle.text.specs.declared.Found.the-variants.{At, Nowhere}
-use Rattle.text.specs.Bytes.{every}
-use Rattle.text.specs.Lines.{Range, within, takes, alternatives, characterIn, character, illFrom, illFormed, firstFrom, isReturn, returnAt, isControl, controlAt}
-use Rattle.text.proofs.CharacterLaws.{character-ascii}
-use Rattle.text.specs.Inner.Lines.{isPlain}
-use Rattle.text.proofs.LineLaws.{plain-well-formed, plain-no-return, plain-no-control}
-use Rattle.exchange.specs.Faults.{clean, _then_, firstOf}
-use Rattle.exchange.specs.LineRules.{foundFault, lineTooLong, lineRules, byteRules}
-use Rattle.exchange.specs.Inner.Faults.{lineFault}
+use Rattle.bytes.specs.declared.Found.{Found}
+use Rattle.bytes.specs.declared.Found.the-variants.{At, Nowhere}
+use Rattle.bytes.specs.Bytes.{every}
+use Rattle.bytes.specs.Lines.{Range, within, takes, alternatives, characterIn, character, illFrom, illFormed, firstFrom, isReturn, returnAt, isControl, controlAt}
+use Rattle.bytes.proofs.CharacterLaws.{character-ascii}
+use Rattle.bytes.specs.Inner.Lines.{isPlain}
+use Rattle.bytes.proofs.LineLaws.{plain-well-formed, plain-no-return, plain-no-control}
+use Rattle.format.specs.Faults.{clean, _then_, firstOf}
+use Rattle.format.specs.LineRules.{foundFault, lineTooLong, lineRules, byteRules}
+use Rattle.format.specs.Inner.Faults.{lineFault}
 use Rattle.laws.specs.Inner.Writes.{join, joinLater}
-use Rattle.exchange.proofs.HeaderLaws.{then-clean}
+use Rattle.format.proofs.FaultLaws.{then-clean}
 use Rattle.laws.proofs.JoinLaws.{join-length-set}
 
 abbrev pub nowhere : Found → Bool

@@ -11,19 +11,19 @@ use lib.Dec.{eqb, ltb}
 use lib.IntN.{ℤ, pos, negℤ}
 use borrow.Author.Tests.{eqb-true, eqb-false, eq-eqb, ne-eqb, ltb-false}
 use Rattle.text.specs.declared.Reading.the-variants.{Present, Missing}
-use Rattle.text.specs.Verdicts.{Verdict, blank, wrong, outOfRange, good, signed, millionthsOf}
-use Rattle.text.specs.Kinds.{Kind, measured, latitude, longitude, depth, kindOf}
-use Rattle.text.specs.Judge.{judge, judgedOf}
+use Rattle.verdicts.specs.Verdicts.{Verdict, blank, wrong, outOfRange, good, signed, millionthsOf}
+use Rattle.verdicts.specs.Kinds.{Kind, measured, latitude, longitude, depth, kindOf}
+use Rattle.verdicts.specs.Judge.{judge, judgedOf}
 use Rattle.text.specs.Reading.{doubleOf, isMissing, readNumber, isDecimal, readingOf}
-use Rattle.text.specs.Rows.{isMissingNumber, missingIn}
-use Rattle.text.proofs.DecimalLaws.{Small}
-use Rattle.text.proofs.JudgeLaws.{largest, judge-small}
+use Rattle.verdicts.specs.Rows.{isMissingNumber, missingIn}
+use Rattle.verdicts.proofs.SizeLaws.{Small}
+use Rattle.verdicts.proofs.JudgeLaws.{largest, judge-small}
 use Rattle.text.proofs.ReadingLaws.{decimal-below, reading-missing}
-use Rattle.exchange.specs.Columns.{kindOfName, kindsOf}
-use Rattle.exchange.specs.Places.{Table, Outcome, accepted, refused, outcomeOf}
-use Rattle.exchange.specs.Profiles.{missingInRow, missingInRows}
-use Rattle.exchange.specs.Answers.{checkedBy, checkedOf, isThere, kindAt, rowsIn, rowCells, cellText, missingOf, readingBy, readingFor}
-use Rattle.exchange.specs.Located.{isMeasured}
+use Rattle.format.specs.Columns.{kindOfName, kindsOf}
+use Rattle.format.specs.Places.{Table, Outcome, accepted, refused, outcomeOf}
+use Rattle.format.specs.Profiles.{missingInRow, missingInRows}
+use Rattle.format.specs.Answers.{checkedBy, checkedOf, isThere, kindAt, rowsIn, rowCells, cellText, missingOf, readingBy, readingFor}
+use Rattle.format.specs.Located.{isMeasured}
 use Rattle.laws.specs.Promises.{columnKind, cellVerdict, MissingExactly, PresentThere, isMissingReading, measuredBy, sumFrom, missingPairs, MissingCounted}
 use Rattle.laws.proofs.AskedLaws.{Good, inside-there, rows-many, row-in, row-many, cell-good, asked-there, reading-there}
 

@@ -7,15 +7,15 @@ use native.Mathlib.Omega.{arith}
 use lib.ListN.{length, getD, length-map, List·getD-map}
 use lib.Dec.{leb}
 use borrow.Author.Tests.{leb-true, leb-false}
-use Rattle.exchange.specs.declared.Checked.{Checked}
-use Rattle.exchange.specs.declared.ProfileRecord.{ProfileRecord}
-use Rattle.exchange.specs.Columns.{Sort, bottle, ctd, kindsOf}
-use Rattle.exchange.specs.Places.{Table, accepted, outcomeOf}
-use Rattle.exchange.specs.Profiles.{Key, keyOf, labels, runCount}
-use Rattle.exchange.specs.Answers.{rowsIn, rowCells, profilesBy, checkedBy, checkedOf}
-use Rattle.exchange.specs.Records.{labelsBy, profileRows, noProfile, recordOf, profileBy, profileOf}
+use Rattle.format.specs.declared.Checked.{Checked}
+use Rattle.format.specs.declared.ProfileRecord.{ProfileRecord}
+use Rattle.format.specs.Columns.{Sort, bottle, ctd, kindsOf}
+use Rattle.format.specs.Places.{Table, accepted, outcomeOf}
+use Rattle.format.specs.Profiles.{Key, keyOf, labels, runCount}
+use Rattle.format.specs.Answers.{rowsIn, rowCells, profilesBy, checkedBy, checkedOf}
+use Rattle.format.specs.Records.{labelsBy, profileRows, noProfile, recordOf, profileBy, profileOf}
 use Rattle.laws.specs.Promises.{rowKey, InProfile, Profiled, ProfilesPart}
-use Rattle.exchange.proofs.AcceptLaws.{rows-some}
+use Rattle.format.proofs.AcceptLaws.{rows-some}
 use Rattle.laws.proofs.AskedLaws.{rows-many, row-in}
 use Rattle.laws.proofs.LabelLaws.{Climbs, topOf, below, many, upFrom, below-next, below-most, below-low, many-low, many-high, many-some, below-all, label-from, label-to, label-below, place-below, rows-up, up-length, labels-climb, labels-top, labels-length, keys-inside, keys-border}
 

@@ -9,15 +9,15 @@ use mathlib.Core.Bool.{Bool, true, false}
 use native.Mathlib.Omega.{arith}
 use lib.ListN.{set}
 use lib.Dec.{ltb}
-use Rattle.text.specs.Cells.{firstPiece, laterPieces, pieces}
-use Rattle.exchange.specs.Faults.{clean, firstOf, unless}
-use Rattle.exchange.specs.Columns.{kindsOf}
-use Rattle.exchange.specs.Rows.{isEndData}
+use Rattle.bytes.specs.Cells.{firstPiece, laterPieces, pieces}
+use Rattle.format.specs.Faults.{clean, firstOf, unless}
+use Rattle.format.specs.Columns.{kindsOf}
+use Rattle.format.specs.Rows.{isEndData}
 use Rattle.laws.specs.Inner.Writes.{join}
-use Rattle.exchange.specs.Places.{Table, Place, first, rows, lastPieceRules, endRules, step, accepted, run, outcomeOf}
-use Rattle.exchange.specs.Inner.Faults.{lineFault, rowFault, boundFault}
-use Rattle.exchange.proofs.RuleLaws.{row-step}
-use Rattle.exchange.proofs.AcceptLaws.{accepted-not-refused, cut-refused, after-accepted, end-passed, row-passed, rows-accepted, Early, Next, early, table, next-step, early-ends, rows-reached}
+use Rattle.format.specs.Places.{Table, Place, first, rows, lastPieceRules, endRules, step, accepted, run, outcomeOf}
+use Rattle.format.specs.Inner.Faults.{lineFault, rowFault, boundFault}
+use Rattle.format.proofs.RuleLaws.{row-step}
+use Rattle.format.proofs.AcceptLaws.{accepted-not-refused, cut-refused, after-accepted, end-passed, row-passed, rows-accepted, Early, Next, early, table, next-step, early-ends, rows-reached}
 use Rattle.laws.proofs.JoinLaws.{Free, first-free, later-free, pieces-join}
 use Rattle.laws.proofs.UngridLaws.{all-set}
 

@@ -3,8 +3,8 @@ use Prim.Native.Nat.{ℕ}
 use mathlib.Core.Path.{_≡_, refl, ap}
 use mathlib.Core.List.{List, [], _∷_}
 use native.Mathlib.Omega.{arith}
-use Rattle.exchange.specs.Faults.{Fault, clean, breaks, firstOf}
-use Rattle.exchange.proofs.RuleLaws.{first-append}
+use Rattle.format.specs.Faults.{Fault, clean, breaks, firstOf}
+use Rattle.format.proofs.RuleLaws.{first-append}
 use Rattle.laws.specs.Promises.{Kept, Broken}
 
 pub first-kept : (rs : List Fault) → Kept rs → firstOf rs ≡ clean

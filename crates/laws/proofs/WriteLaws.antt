@@ -16,27 +16,27 @@ use lib.Dec.{eqb, leb}
 use lib.ListN.{length, getD, set, drop, length-set, length-map, length-drop, List·getD-map}
 use lib.Seq.{map-set-same, getD-drop}
 use borrow.Author.Tests.{ne-eqb, leb-true}
-use Rattle.text.specs.Bytes.{bytes, every}
-use Rattle.text.specs.Cells.{firstPiece, laterPieces, pieces}
-use Rattle.text.specs.Verdicts.{Verdict, blank, wrong, outOfRange, good, isGood}
-use Rattle.text.specs.Decimals.{front, fraction, unsignedOf, decimalOf}
-use Rattle.text.specs.Spaces.{trimFront, keep, trimEnd, trim}
-use Rattle.text.specs.Kinds.{kindOf}
-use Rattle.text.specs.Judge.{ofKind, judge}
-use Rattle.text.proofs.EqualLaws.{equal-same}
-use Rattle.text.proofs.EveryLaws.{every-cons}
-use Rattle.text.specs.Inner.Lines.{isPlain}
-use Rattle.exchange.specs.Faults.{clean, breaks, _then_, unless, kindFault, firstOf}
-use Rattle.exchange.specs.Columns.{kindsOf}
-use Rattle.exchange.specs.Rows.{isEndData, cellRules, rowRules}
+use Rattle.bytes.specs.Bytes.{bytes, every}
+use Rattle.bytes.specs.Cells.{firstPiece, laterPieces, pieces}
+use Rattle.verdicts.specs.Verdicts.{Verdict, blank, wrong, outOfRange, good, isGood}
+use Rattle.verdicts.specs.Decimals.{front, fraction, unsignedOf, decimalOf}
+use Rattle.bytes.specs.Spaces.{trimFront, keep, trimEnd, trim}
+use Rattle.verdicts.specs.Kinds.{kindOf}
+use Rattle.verdicts.specs.Judge.{ofKind, judge}
+use Rattle.bytes.proofs.EqualLaws.{equal-same}
+use Rattle.bytes.proofs.EveryLaws.{every-cons}
+use Rattle.bytes.specs.Inner.Lines.{isPlain}
+use Rattle.format.specs.Faults.{clean, breaks, _then_, unless, kindFault, firstOf}
+use Rattle.format.specs.Columns.{kindsOf}
+use Rattle.format.specs.Rows.{isEndData, cellRules, rowRules}
 use Rattle.laws.specs.Inner.Writes.{join, ungrid, Write, written}
-use Rattle.exchange.specs.Profiles.{grid}
-use Rattle.exchange.specs.Places.{Table, accepted, outcomeOf}
-use Rattle.exchange.specs.Inner.Faults.{lineFault, cellFault, rowFault, boundFault}
-use Rattle.exchange.proofs.HeaderLaws.{then-clean}
-use Rattle.exchange.proofs.RowLaws.{fault-good}
-use Rattle.exchange.proofs.GridLaws.{getD-mapped, cells-many}
-use Rattle.exchange.proofs.AcceptLaws.{rows-kept}
+use Rattle.format.specs.Profiles.{grid}
+use Rattle.format.specs.Places.{Table, accepted, outcomeOf}
+use Rattle.format.specs.Inner.Faults.{lineFault, cellFault, rowFault, boundFault}
+use Rattle.format.proofs.FaultLaws.{then-clean}
+use Rattle.format.proofs.VerdictLaws.{fault-good}
+use Rattle.format.proofs.GridLaws.{getD-mapped, cells-many}
+use Rattle.format.proofs.AcceptLaws.{rows-kept}
 use Rattle.laws.proofs.JoinLaws.{Free, All, join-pieces, pieces-free}
 use Rattle.laws.proofs.UngridLaws.{all-at, CleanRow, clean-row, clean-grid, row-free, cells-row, clean-row-set, clean-set, ungrid-set, grid-ungrid}
 use Rattle.laws.proofs.RowKeepLaws.{row-replaced}

@@ -8,18 +8,18 @@ use mathlib.Core.Bool.{Bool, true, false, cond, _&&_}
 use lib.IntN.{pos, negℤ}
 use Rattle.text.specs.declared.Reading.{Reading}
 use Rattle.text.specs.declared.Reading.the-variants.{Present, Missing, Refused}
-use Rattle.text.specs.Verdicts.{Verdict, millionthsOf}
-use Rattle.text.specs.Kinds.{Kind, measured, latitude, longitude, depth, flag, ctdFlag, kindOf}
-use Rattle.text.specs.Judge.{judge}
+use Rattle.verdicts.specs.Verdicts.{Verdict, millionthsOf}
+use Rattle.verdicts.specs.Kinds.{Kind, measured, latitude, longitude, depth, flag, ctdFlag, kindOf}
+use Rattle.verdicts.specs.Judge.{judge}
 use Rattle.text.specs.Reading.{doubleOf, readNumber, isDecimal}
-use Rattle.exchange.specs.Grid.{nowhere}
-use Rattle.exchange.specs.Faults.{Fault, clean, breaks}
-use Rattle.exchange.specs.Columns.{bottle, ctd, kindsOf}
-use Rattle.exchange.specs.Places.{Table, after, Outcome, accepted, refused, outcomeOf}
-use Rattle.exchange.specs.Profiles.{Key, keyOf}
-use Rattle.exchange.specs.Answers.{checkedBy, checkedOf, isThere, askedOf, kindAt, rowCells, cellText, cellPlace, trimmedPlace, cellOf, refusalBy, readingFor, flaggedOf}
-use Rattle.exchange.specs.Located.{isMeasured}
-use Rattle.exchange.specs.Records.{noProfile, profileOf}
+use Rattle.format.specs.Grid.{nowhere}
+use Rattle.format.specs.Faults.{Fault, clean, breaks}
+use Rattle.format.specs.Columns.{bottle, ctd, kindsOf}
+use Rattle.format.specs.Places.{Table, after, Outcome, accepted, refused, outcomeOf}
+use Rattle.format.specs.Profiles.{Key, keyOf}
+use Rattle.format.specs.Answers.{checkedBy, checkedOf, isThere, askedOf, kindAt, rowCells, cellText, cellPlace, trimmedPlace, cellOf, refusalBy, readingFor, flaggedOf}
+use Rattle.format.specs.Located.{isMeasured}
+use Rattle.format.specs.Records.{noProfile, profileOf}
 use Rattle.laws.specs.RuleOrder.{linesIn, placeBefore, rulesOf}
 
 -- ---- the kind of a column, counted from 1, of a file with the table t; its cell judged

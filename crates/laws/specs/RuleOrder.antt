@@ -5,10 +5,10 @@ use mathlib.Core.List.{List, [], _∷_}
 use mathlib.Core.Bool.{cond}
 use lib.ListN.{length, getD, take}
 use lib.Dec.{ltb}
-use Rattle.text.specs.Bytes.{lineFeed}
-use Rattle.text.specs.Cells.{pieces}
-use Rattle.exchange.specs.Faults.{Fault}
-use Rattle.exchange.specs.Places.{Place, first, rulesAt, endRules, nextPlace}
+use Rattle.bytes.specs.Bytes.{lineFeed}
+use Rattle.bytes.specs.Cells.{pieces}
+use Rattle.format.specs.Faults.{Fault}
+use Rattle.format.specs.Places.{Place, first, rulesAt, endRules, nextPlace}
 
 -- from line l at a place, over some lines
 unfoldable pub walk : ℕ → Place → List (List ℕ) → Place

@@ -9,9 +9,9 @@ use native.Mathlib.Omega.{arith}
 use lib.ListN.{length, length-append}
 use lib.Dec.{ltb}
 use borrow.Author.Tests.{ltb-true, ltb-false, lt-ltb}
-use Rattle.text.specs.Bytes.{isDigit, every, numeral}
-use Rattle.text.proofs.EveryLaws.{every-cons}
-use Rattle.text.proofs.ScanLaws.{digit-yes}
+use Rattle.bytes.specs.Bytes.{isDigit, every, numeral}
+use Rattle.bytes.proofs.EveryLaws.{every-cons}
+use Rattle.bytes.proofs.DigitLaws.{digit-yes}
 use Rattle.numbers.specs.Texts.{lastDigits, wholeDigits, wholeText}
 
 -- ---- a test at every byte of two texts, and one that follows from another

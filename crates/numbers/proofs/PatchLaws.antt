@@ -8,7 +8,7 @@ use lib.ListN.{length, getD, set, take, drop, take-append-drop, length-append, l
 use lib.Seq.{take-suc, set-at, length-take-le, append-snoc, take-append-le, take-take, drop-at}
 use lib.Dec.{leb}
 use borrow.Author.Tests.{le-leb, lt-leb, leb-true, leb-false}
-use Rattle.text.specs.declared.Span.{Span}
+use Rattle.bytes.specs.declared.Span.{Span}
 use Rattle.numbers.specs.Texts.{textOf, textLength, flagText, atRight}
 use Rattle.numbers.specs.Patches.{patch, hasRoom, textSet, numberSet, digitSet}
 use Rattle.numbers.specs.Inner.Puts.{InCell}

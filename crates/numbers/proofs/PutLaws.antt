@@ -8,7 +8,7 @@ use native.Mathlib.Omega.{arith}
 use lib.ListN.{length, set, replicate, length-append, length-replicate}
 use lib.Seq.{append-snoc}
 use borrow.Author.Tests.{ne-eqb}
-use Rattle.text.specs.declared.Span.{Span}
+use Rattle.bytes.specs.declared.Span.{Span}
 use Rattle.numbers.specs.Texts.{lastDigits, wholeText, fractionText, signText, atRight}
 use Rattle.numbers.specs.Patches.{patch}
 use Rattle.numbers.specs.Inner.Puts.{Room, PutBefore, InCell}

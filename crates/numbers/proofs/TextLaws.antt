@@ -9,17 +9,17 @@ use lib.ListN.{length, replicate, length-append, length-replicate}
 use lib.Dec.{eqb, leb, ltb}
 use lib.IntN.{ℤ, pos, negsuc}
 use borrow.Author.Tests.{le-leb, lt-leb, leb-true, ne-eqb, eqb-true, lt-ltb, ltb-true, ltb-false}
-use Rattle.text.specs.Bytes.{comma, isDigit, every, numeral}
-use Rattle.text.specs.Inner.Lines.{isPlain}
-use Rattle.text.specs.Spaces.{trim}
-use Rattle.text.specs.Verdicts.{Verdict, wrong, good, signed, isGood, sizeOf}
-use Rattle.text.specs.Decimals.{front, fraction, settle, unsignedOf, decimalOf}
-use Rattle.text.specs.Kinds.{measured, kindOf}
-use Rattle.text.specs.Judge.{judge, ofKind, wholeOf, unlessBlank}
-use Rattle.text.proofs.CellLaws.{both-true}
-use Rattle.text.proofs.EveryLaws.{every-cons}
-use Rattle.text.proofs.ScanLaws.{digit-yes, digit-range}
-use Rattle.text.proofs.SpaceLaws.{isSolid, trim-solid, trim-pad-front}
+use Rattle.bytes.specs.Bytes.{comma, isDigit, every, numeral}
+use Rattle.bytes.specs.Inner.Lines.{isPlain}
+use Rattle.bytes.specs.Spaces.{trim}
+use Rattle.verdicts.specs.Verdicts.{Verdict, wrong, good, signed, isGood, sizeOf}
+use Rattle.verdicts.specs.Decimals.{front, fraction, settle, unsignedOf, decimalOf}
+use Rattle.verdicts.specs.Kinds.{measured, kindOf}
+use Rattle.verdicts.specs.Judge.{judge, ofKind, wholeOf, unlessBlank}
+use Rattle.bytes.proofs.CellLaws.{both-true}
+use Rattle.bytes.proofs.EveryLaws.{every-cons}
+use Rattle.bytes.proofs.DigitLaws.{digit-yes, digit-range}
+use Rattle.bytes.proofs.SpaceLaws.{isSolid, trim-solid, trim-pad-front}
 use Rattle.numbers.specs.Texts.{size, isBelow, lastDigits, wholeText, fractionText, signText, textOf, textLength, numberText, flagText, atRight}
 use Rattle.numbers.proofs.DigitLaws.{every-append, every-one, every-after, every-from, numeral-append, last-length, last-digits, last-numeral, whole-digits, whole-some, whole-length, whole-many, whole-numeral}
 

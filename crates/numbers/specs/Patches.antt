@@ -4,7 +4,7 @@ use mathlib.Core.List.{List, _++_}
 use mathlib.Core.Bool.{Bool, cond, _&&_}
 use lib.ListN.{length, take, drop}
 use lib.Dec.{leb}
-use Rattle.text.specs.declared.Span.{Span}
+use Rattle.bytes.specs.declared.Span.{Span}
 use Rattle.numbers.specs.Texts.{textOf, flagText, atRight}
 
 -- the bytes of f at a place

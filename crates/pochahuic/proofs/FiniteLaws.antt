@@ -9,7 +9,7 @@ use lib.Ieee.Scale.{finite}
 use Rattle.text.specs.declared.Reading.{Reading}
 use Rattle.text.specs.declared.Reading.the-variants.{Present, Missing, Refused}
 use Rattle.text.proofs.ReadingLaws.{reading-finite}
-use Rattle.exchange.specs.Answers.{Asked, found, missed, askedOf, readingBy, readingFor}
+use Rattle.format.specs.Answers.{Asked, found, missed, askedOf, readingBy, readingFor}
 use Rattle.pochahuic.specs.Numbers.{valueOf}
 use Rattle.pochahuic.specs.Promises.{ValueFinite}
 

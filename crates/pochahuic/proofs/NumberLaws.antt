@@ -7,17 +7,17 @@ use lib.IntN.{ℤ, pos}
 use lib.Ieee.{Float, binary64, ofInt, ofBits}
 use Rattle.text.specs.declared.Reading.{Reading}
 use Rattle.text.specs.declared.Reading.the-variants.{Present, Missing, Refused}
-use Rattle.exchange.specs.declared.Checked.{Checked}
-use Rattle.exchange.specs.declared.CellPlace.{CellPlace}
-use Rattle.exchange.specs.declared.Flagged.{Flagged}
-use Rattle.exchange.specs.declared.CastTime.{CastTime}
-use Rattle.exchange.specs.declared.CastTime.the-variants.{Given, Missing as Untimed}
-use Rattle.exchange.specs.declared.ProfileRecord.{ProfileRecord}
-use Rattle.correction.specs.declared.Order.{Order}
-use Rattle.correction.specs.declared.Answer.{Answer}
-use Rattle.correction.specs.declared.Answer.the-variants.{Applied, Refused as Denied}
-use Rattle.correction.specs.declared.ListLine.{ListLine}
-use Rattle.correction.specs.Corrections.{orderOf, answerOf, correctedOf, numbersOf}
+use Rattle.format.specs.declared.Checked.{Checked}
+use Rattle.format.specs.declared.CellPlace.{CellPlace}
+use Rattle.format.specs.declared.Flagged.{Flagged}
+use Rattle.format.specs.declared.CastTime.{CastTime}
+use Rattle.format.specs.declared.CastTime.the-variants.{Given, Missing as Untimed}
+use Rattle.format.specs.declared.ProfileRecord.{ProfileRecord}
+use Rattle.orders.specs.declared.Order.{Order}
+use Rattle.orders.specs.declared.Answer.{Answer}
+use Rattle.orders.specs.declared.Answer.the-variants.{Applied, Refused as Denied}
+use Rattle.orders.specs.declared.ListLine.{ListLine}
+use Rattle.orders.specs.Corrections.{orderOf, answerOf, correctedOf, numbersOf}
 use Rattle.pochahuic.specs.Numbers.{kindNumber, checkNumbers, placeNumbers, readingCase, millionthsOf, valueOf, refusalOf, flagNumbers, timeNumbers, profileNumbers, answerNumber, lineNumbers}
 
 pub check-answered : (x y : Checked) → x ≡ y → (k : ℕ) → k ≡ kindNumber (x .kind)

@@ -7,17 +7,17 @@ use lib.IntN.{ℤ, pos}
 use lib.Ieee.{Float, binary64, ofInt}
 use Rattle.text.specs.declared.Reading.{Reading}
 use Rattle.text.specs.declared.Reading.the-variants.{Present, Missing, Refused}
-use Rattle.exchange.specs.declared.FileKind.{FileKind}
-use Rattle.exchange.specs.declared.FileKind.the-variants.{Unknown, Bottle, Ctd}
-use Rattle.exchange.specs.declared.Checked.{Checked}
-use Rattle.exchange.specs.declared.CellPlace.{CellPlace}
-use Rattle.exchange.specs.declared.Flagged.{Flagged}
-use Rattle.exchange.specs.declared.CastTime.{CastTime}
-use Rattle.exchange.specs.declared.CastTime.the-variants.{Given, Missing as Untimed}
-use Rattle.exchange.specs.declared.ProfileRecord.{ProfileRecord}
-use Rattle.correction.specs.declared.Answer.{Answer}
-use Rattle.correction.specs.declared.ListLine.{ListLine}
-use Rattle.correction.specs.Corrections.{numbersOf}
+use Rattle.format.specs.declared.FileKind.{FileKind}
+use Rattle.format.specs.declared.FileKind.the-variants.{Unknown, Bottle, Ctd}
+use Rattle.format.specs.declared.Checked.{Checked}
+use Rattle.format.specs.declared.CellPlace.{CellPlace}
+use Rattle.format.specs.declared.Flagged.{Flagged}
+use Rattle.format.specs.declared.CastTime.{CastTime}
+use Rattle.format.specs.declared.CastTime.the-variants.{Given, Missing as Untimed}
+use Rattle.format.specs.declared.ProfileRecord.{ProfileRecord}
+use Rattle.orders.specs.declared.Answer.{Answer}
+use Rattle.orders.specs.declared.ListLine.{ListLine}
+use Rattle.orders.specs.Corrections.{numbersOf}
 
 -- ---- the check: the kind is 0 for none, 1 for a bottle file, 2 for a CTD file; then the counts
 abbrev pub kindNumber : FileKind → ℕ
@@ -65,7 +65,7 @@ timeNumbers Untimed = 0 ∷ 0 ∷ 0 ∷ []
 abbrev pub profileNumbers : ProfileRecord → List ℕ
 profileNumbers x = x .number ∷ x .line ∷ x .column ∷ x .first ∷ x .rows ∷ x .castno ∷ x .date ∷ timeNumbers (x .time)
 
--- ---- a correction: the refusal alone (numbersOf of the correction crate), and its number
+-- ---- a correction: the refusal alone (numbersOf of the crate orders), and its number
 abbrev pub answerNumber : Answer → ℕ
 answerNumber x = getD (numbersOf x) 0 0
 

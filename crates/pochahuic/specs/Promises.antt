@@ -4,7 +4,7 @@ use Prim.Native.Nat.{ℕ}
 use mathlib.Core.List.{List}
 use lib.Dec.{T}
 use lib.Ieee.Scale.{finite}
-use Rattle.exchange.specs.Answers.{readingFor}
+use Rattle.format.specs.Answers.{readingFor}
 use Rattle.pochahuic.specs.Numbers.{valueOf}
 
 abbrev pub ValueFinite : Type 0

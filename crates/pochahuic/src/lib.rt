@@ -1,10 +1,10 @@
 // The calls for programs in other languages: numbers and bytes only. Each writes the numbers of its answer into the lent array, refusal number, line and column
 // first (a list line has its number alone), and answers the refusal number, 0 where nothing is refused; a decimal answers which reading it is.
 ghost use mathlib.Core.Path.{_≡_};
-ghost use Rattle.exchange.specs.Answers.{checkedOf, placeFor, readingFor, flaggedOf};
-ghost use Rattle.exchange.specs.Records.{profileOf, stationedOf, stationAnswer};
-ghost use Rattle.correction.specs.Corrections.{orderOf, answerOf, correctedOf, numbersOf};
-ghost use Rattle.correction.specs.ListLines.{lineRead};
+ghost use Rattle.format.specs.Answers.{checkedOf, placeFor, readingFor, flaggedOf};
+ghost use Rattle.format.specs.Records.{profileOf, stationedOf, stationAnswer};
+ghost use Rattle.orders.specs.Corrections.{orderOf, answerOf, correctedOf, numbersOf};
+ghost use Rattle.orders.specs.ListLines.{lineRead};
 ghost use Rattle.pochahuic.specs.Numbers.{kindNumber, checkNumbers, placeNumbers, readingCase, millionthsOf, valueOf, refusalOf, flagNumbers, timeNumbers, profileNumbers, answerNumber, lineNumbers};
 use correction::Answer;
 use correction::Order;

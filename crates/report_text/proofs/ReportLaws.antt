@@ -5,9 +5,9 @@ use mathlib.Core.List.{List, _++_}
 use native.Mathlib.Numerals.{add-one}
 use lib.ListN.{length}
 use borrow.Author.Tests.{eq-eqb, ne-eqb, lt-ltb, le-ltb}
-use Rattle.exchange.specs.declared.Checked.{Checked}
-use Rattle.exchange.specs.Answers.{checkedOf}
-use Rattle.exchange.specs.Records.{profileOf}
+use Rattle.format.specs.declared.Checked.{Checked}
+use Rattle.format.specs.Answers.{checkedOf}
+use Rattle.format.specs.Records.{profileOf}
 use Rattle.report_text.specs.Pages.{Page, lay}
 use Rattle.report_text.specs.Report.{tooLong, refusedLine, acceptedLine, profileLine, profileLines, reportBy, reportOf}
 

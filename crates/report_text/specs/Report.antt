@@ -5,13 +5,13 @@ use mathlib.Core.List.{List, [], _∷_, _++_}
 use mathlib.Core.Bool.{cond}
 use lib.ListN.{length}
 use lib.Dec.{eqb, ltb}
-use Rattle.text.specs.Bytes.{bytes}
-use Rattle.exchange.specs.declared.FileKind.{FileKind}
-use Rattle.exchange.specs.declared.FileKind.the-variants.{Unknown, Bottle, Ctd}
-use Rattle.exchange.specs.declared.Checked.{Checked}
-use Rattle.exchange.specs.declared.ProfileRecord.{ProfileRecord}
-use Rattle.exchange.specs.Answers.{checkedOf}
-use Rattle.exchange.specs.Records.{profileOf, stationedOf, stationPlace}
+use Rattle.bytes.specs.Bytes.{bytes}
+use Rattle.format.specs.declared.FileKind.{FileKind}
+use Rattle.format.specs.declared.FileKind.the-variants.{Unknown, Bottle, Ctd}
+use Rattle.format.specs.declared.Checked.{Checked}
+use Rattle.format.specs.declared.ProfileRecord.{ProfileRecord}
+use Rattle.format.specs.Answers.{checkedOf}
+use Rattle.format.specs.Records.{profileOf, stationedOf, stationPlace}
 use Rattle.numbers.specs.Texts.{wholeText}
 use Rattle.numbers.specs.Patches.{textAt}
 

@@ -1,6 +1,6 @@
 // The lines of the report.
 ghost use mathlib.Core.Path.{_≡_};
-ghost use Rattle.exchange.specs.Records.{profileOf};
+ghost use Rattle.format.specs.Records.{profileOf};
 ghost use Rattle.report_text.specs.Pages.{page, lay};
 ghost use Rattle.report_text.specs.Report.{field, number as numberIn, kindField, refusedLine, acceptedLine, stationText, profileLine, profileLines};
 use crate::put;

@@ -9,11 +9,11 @@ use lib.ListN.{length, drop}
 use lib.Seq.{drop-drop}
 use lib.Dec.{ltb}
 use borrow.Author.Tests.{ltb-true, ltb-false}
-use Rattle.text.specs.declared.Found.{Found}
-use Rattle.text.specs.declared.Found.the-variants.{At, Nowhere}
-use Rattle.text.specs.Bytes.{equal}
+use Rattle.bytes.specs.declared.Found.{Found}
+use Rattle.bytes.specs.declared.Found.the-variants.{At, Nowhere}
+use Rattle.bytes.specs.Bytes.{equal}
 use Rattle.text.specs.Catalogue.{Listed, listed, padded, base256, insert, ordered, flat, names, kinds, entryAt, searchFrom, lookUp, kindIn}
-use Rattle.text.proofs.EqualLaws.{equal-same}
+use Rattle.bytes.proofs.EqualLaws.{equal-same}
 
 -- an entry as a number
 abbrev valueAt : List ℕ → ℕ → ℕ

@@ -8,10 +8,10 @@ use native.Mathlib.Nat.{sub-zero, not-suc-le-zero, le-of-suc-le-suc}
 use native.Mathlib.Omega.{arith}
 use lib.ListN.{length, getD, drop, replicate, length-append, length-replicate, length-drop, List·getD-eq-default}
 use lib.Seq.{getD-take, getD-drop, length-take-le}
-use Rattle.text.specs.declared.Found.the-variants.{At, Nowhere}
-use Rattle.text.specs.Bytes.{equal}
+use Rattle.bytes.specs.declared.Found.the-variants.{At, Nowhere}
+use Rattle.bytes.specs.Bytes.{equal}
 use Rattle.text.specs.Catalogue.{padded, entryAt, searchFrom, lookUp, kindIn}
-use Rattle.text.proofs.EqualLaws.{equal-lengths, equal-end, equal-stop, equal-step}
+use Rattle.bytes.proofs.EqualLaws.{equal-lengths, equal-end, equal-stop, equal-step}
 
 -- ---- one entry
 pub entry-length : (t : List ℕ) (k : ℕ) → 16 * k + 16 ≤ length t → length (entryAt t k) ≡ 16

@@ -1,13 +1,13 @@
 -- The bench samples marked P, computed.
 use mathlib.Core.Path.{refl}
-use Rattle.text.specs.Bytes.{every, equal, numeral}
-use Rattle.text.specs.Cells.{firstPiece, cellEnd}
-use Rattle.text.specs.Spaces.{trimFront, keep, trimEnd, trim}
-use Rattle.text.specs.Decimals.{front, fraction, settle, unsignedOf, decimalOf}
-use Rattle.text.specs.Dates.{isLeap, monthDays, isDay, isDate}
-use Rattle.text.specs.Kinds.{kindOf}
-use Rattle.text.specs.Judge.{dateOf, ofKind, judge, stopsAt, judgedAt}
-use Rattle.text.specs.Verdicts.{signed}
+use Rattle.bytes.specs.Bytes.{every, equal, numeral}
+use Rattle.bytes.specs.Cells.{firstPiece, cellEnd}
+use Rattle.bytes.specs.Spaces.{trimFront, keep, trimEnd, trim}
+use Rattle.verdicts.specs.Decimals.{front, fraction, settle, unsignedOf, decimalOf}
+use Rattle.verdicts.specs.Dates.{isLeap, monthDays, isDay, isDate}
+use Rattle.verdicts.specs.Kinds.{kindOf}
+use Rattle.verdicts.specs.Judge.{dateOf, ofKind, judge, stopsAt, judgedAt}
+use Rattle.verdicts.specs.Verdicts.{signed}
 use Rattle.text.specs.Reading.{readingOf, readingAt}
 use Rattle.text.specs.Samples.{SamplesHold}
 

@@ -5,10 +5,10 @@ use mathlib.Core.List.{List, [], _∷_, _++_, map}
 use mathlib.Core.Bool.{cond}
 use lib.ListN.{length, getD, take, drop, replicate}
 use lib.Dec.{ltb}
-use Rattle.text.specs.declared.Found.{Found}
-use Rattle.text.specs.declared.Found.the-variants.{At, Nowhere}
-use Rattle.text.specs.Bytes.{bytes, equal}
-use Rattle.text.specs.Kinds.{Kind, measured, latitude, longitude, depth, expocode, stnnbr, castno, date, time, free, codeOf}
+use Rattle.bytes.specs.declared.Found.{Found}
+use Rattle.bytes.specs.declared.Found.the-variants.{At, Nowhere}
+use Rattle.bytes.specs.Bytes.{bytes, equal}
+use Rattle.verdicts.specs.Kinds.{Kind, measured, latitude, longitude, depth, expocode, stnnbr, castno, date, time, free, codeOf}
 
 -- a listed name and the number of its kind
 pub record Listed : Type 0 where

@@ -1,15 +1,3 @@
-pub mod Bytes
-pub mod Cells
-pub mod Spaces
-pub mod Lines
-pub mod Names
-pub mod Kinds
-pub mod Verdicts
-pub mod Decimals
-pub mod Dates
-pub mod Judge
 pub mod Catalogue
 pub mod Reading
-pub mod Rows
 pub mod Samples
-pub mod Inner

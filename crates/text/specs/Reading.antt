@@ -5,12 +5,12 @@ use mathlib.Core.Bool.{Bool, true, false, cond}
 use lib.Dec.{eqb}
 use lib.IntN.{ℤ, pos, negsuc, negℤ}
 use lib.Ieee.{Float, binary64, ofInt, div}
-use Rattle.text.specs.declared.Judged.{Judged}
+use Rattle.verdicts.specs.declared.Judged.{Judged}
 use Rattle.text.specs.declared.Reading.{Reading}
 use Rattle.text.specs.declared.Reading.the-variants.{Present, Missing, Refused}
-use Rattle.text.specs.Kinds.{Kind, measured, latitude, longitude, depth, flag, ctdFlag, expocode, stnnbr, castno, date, time, free, kindOf}
-use Rattle.text.specs.Verdicts.{signed}
-use Rattle.text.specs.Judge.{judgedAt}
+use Rattle.verdicts.specs.Kinds.{Kind, measured, latitude, longitude, depth, flag, ctdFlag, expocode, stnnbr, castno, date, time, free, kindOf}
+use Rattle.verdicts.specs.Verdicts.{signed}
+use Rattle.verdicts.specs.Judge.{judgedAt}
 
 -- the double: the millionths, held exactly, divided once by one million
 unfoldable pub doubleOf : ℤ → Float

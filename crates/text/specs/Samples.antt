@@ -7,12 +7,12 @@ use mathlib.Core.Bool.{cond}
 use lib.ListN.{length}
 use lib.Dec.{eqb}
 use lib.IntN.{ℤ, pos, negℤ}
-use Rattle.text.specs.declared.Judged.{Judged}
+use Rattle.verdicts.specs.declared.Judged.{Judged}
 use Rattle.text.specs.declared.Reading.{Reading}
 use Rattle.text.specs.declared.Reading.the-variants.{Present, Missing, Refused}
-use Rattle.text.specs.Bytes.{lineFeed, comma, bytes}
-use Rattle.text.specs.Kinds.{Kind, measured, date, codeOf}
-use Rattle.text.specs.Judge.{judgedAt}
+use Rattle.bytes.specs.Bytes.{lineFeed, comma, bytes}
+use Rattle.verdicts.specs.Kinds.{Kind, measured, date, codeOf}
+use Rattle.verdicts.specs.Judge.{judgedAt}
 use Rattle.text.specs.Reading.{isDecimal, readingAt}
 
 -- a refusal's number, a missing reading, a present one's millionths, or another kind's number

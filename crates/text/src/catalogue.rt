@@ -2,10 +2,10 @@
 ghost use mathlib.Core.Path.{_≡_};
 ghost use Prim.Native.Nat.{_+_, _*_, _≤_};
 ghost use lib.ListN.{length};
-ghost use Rattle.text.specs.Bytes.{equal};
+ghost use Rattle.bytes.specs.Bytes.{equal};
 ghost use Rattle.text.specs.Catalogue.{entryAt, padded};
-use crate::kinds;
-use crate::lines::byte_at;
+use bytes::byte_at;
+use bytes::kinds;
 
 // So many bytes has an entry of the table.
 pub const ENTRY: usize = 16;

@@ -3,11 +3,11 @@ ghost use mathlib.Core.Path.{_≡_};
 ghost use Prim.Native.Nat.{_<_, _^_};
 ghost use lib.IntN.{natAbs};
 ghost use Rattle.text.specs.Reading.{readNumber, readingOf};
-use crate::Judged;
 use crate::Reading;
-use crate::kinds;
-use crate::refusals;
-use crate::signed_size;
+use bytes::kinds;
+use bytes::refusals;
+use verdicts::Judged;
+use verdicts::signed_size;
 
 // -999 in millionths.
 const MISSING: i64 = -999000000;

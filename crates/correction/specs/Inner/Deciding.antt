@@ -5,12 +5,12 @@ use mathlib.Core.List.{List, [], _∷_}
 use mathlib.Core.Bool.{cond, not}
 use lib.ListN.{length}
 use lib.Dec.{ltb}
-use Rattle.exchange.specs.declared.Located.{Located}
+use Rattle.format.specs.declared.Located.{Located}
 use Rattle.numbers.specs.Texts.{numberText}
-use Rattle.correction.specs.declared.Order.{Order}
-use Rattle.correction.specs.declared.Answer.the-variants.{Applied, Refused}
+use Rattle.orders.specs.declared.Order.{Order}
+use Rattle.orders.specs.declared.Answer.the-variants.{Applied, Refused}
 use Rattle.correction.specs.declared.deciding.Decision.{Decision}
-use Rattle.correction.specs.Corrections.{badNumber, wrongFlag, Test, test, answerOf, filled, correctedOf}
+use Rattle.orders.specs.Corrections.{badNumber, wrongFlag, Test, test, answerOf, filled, correctedOf}
 use Rattle.correction.specs.Inner.Writing.{Writes, fillsAt}
 
 -- the number of the first test that holds, 0 where none does

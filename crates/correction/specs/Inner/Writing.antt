@@ -5,9 +5,9 @@ use mathlib.Core.List.{List, [], _∷_}
 use mathlib.Core.Bool.{true, cond}
 use Rattle.numbers.specs.Texts.{numberText, flagText}
 use Rattle.numbers.specs.Inner.Puts.{InCell}
-use Rattle.correction.specs.declared.Order.{Order}
+use Rattle.orders.specs.declared.Order.{Order}
 use Rattle.correction.specs.declared.writing.CellPlaces.{CellPlaces}
-use Rattle.correction.specs.Corrections.{Fill, fill}
+use Rattle.orders.specs.Corrections.{Fill, fill}
 
 -- a measurement's cells may be written: the value's, and the flag's where there is one
 pub record Writes (f : List ℕ) (p : CellPlaces) (o : Order) : Type 0 where

@@ -1,6 +1,5 @@
 -- The refusal, or the cells and the name of the column that was asked for.
-use native.Mathlib.Omega.{arith}
-use Rattle.exchange.proofs.LocateLaws.{locate-refused, locate-named, locate-found}
+use Rattle.exchange.proofs.LocateLaws.{locate-refused, locate-found}
 use borrow.Author.Needs.{needs}
 use Rattle.exchange.proofs.locate.Statement.{statement}
 use Rattle.exchange.proofs.locate.Tie as tie
@@ -11,25 +10,34 @@ find-cell-requires c κs = search needs
 returns : tie.Need-returns
 returns c = let a = c .before .before in locate-refused _ _ _ (a .find-cell .result) (a .find-cell .ensures) (c .if1 .taken)
 
+flag-column-requires : tie.Need-flag-column-requires
+flag-column-requires c κs = search needs
+
 sub-is-ctd : tie.Need-sub-is-ctd
-sub-is-ctd c = let a = c .before .before .before in a .find-cell .ensures .on (c .before .if1 .left) .1 .within .0
+sub-is-ctd c = let e = c .before .before in e .before .before .find-cell .ensures .on (e .if1 .left) .1 .within .0
 
 is-ctd-requires : tie.Need-is-ctd-requires
-is-ctd-requires c κs = let a = c .before .before .before in locate-named _ _ _ (a .find-cell .result) (a .find-cell .ensures) (c .before .if1 .left)
-
-cast-place-in : tie.Need-cast-place-in
-cast-place-in c = omega (arith, c .struct-known4 .given)
+is-ctd-requires c κs = let e = c .before .before in e .before .before .find-cell .ensures .on (e .if1 .left) .1 .inside
 
 place-in-requires : tie.Need-place-in-requires
-place-in-requires c κs = let a = c .before .before .before .before .before .before in a .find-cell .ensures .on (c .before .before .before .before .if1 .left) .1 .row
+place-in-requires c κs = search needs
 
 returns-2 : tie.Need-returns-2
 returns-2 c =
-    let d = c .before .before .before in
-    let a = d .before .before .before .before in
-    locate-found _ _ _ (a .find-cell .result) (a .find-cell .ensures) (d .before .before .if1 .left) _ (d .is-ctd .ensures) _ (c .place-in .ensures)
+    let d = c .before in
+    let f = d .before .before in
+    let e = f .before in
+    let a = e .before .before in
+    locate-found _ _ _ (a .find-cell .result) (a .find-cell .ensures) (e .if1 .left) _ (d .is-ctd .ensures) _ (f .flag-column .ensures) _ (c .place-in .ensures)
 
 pub locate-spec : {M : Type 1} → statement M
 locate-spec =
     tie.close
-    (tie.spec find-cell-requires returns sub-is-ctd is-ctd-requires cast-place-in place-in-requires returns-2)
+    (tie.spec
+    find-cell-requires
+    returns
+    flag-column-requires
+    sub-is-ctd
+    is-ctd-requires
+    place-in-requires
+    returns-2)

@@ -1,17 +1,16 @@
 -- The words of the contract of finding the cell of a row and a column; no promise of a public call cites them.
-use Prim.Native.Nat.{ℕ, _+_, _-_, _≤_, _<_}
+use Prim.Native.Nat.{ℕ, _+_, _-_, _≤_}
 use mathlib.Core.Path.{_≡_}
 use mathlib.Core.List.{List}
 use lib.ListN.{length}
-use Rattle.text.specs.Bytes.{comma}
-use Rattle.text.specs.Cells.{lineAt, cellAt}
-use Rattle.text.specs.Inner.Scans.{Stop}
+use Rattle.bytes.specs.Bytes.{comma}
+use Rattle.bytes.specs.Cells.{lineAt, cellAt}
+use Rattle.bytes.specs.Inner.Scans.{Stop}
 use Rattle.exchange.specs.declared.cells.Cell.{Cell}
-use Rattle.exchange.specs.Columns.{namesOf}
-use Rattle.exchange.specs.Places.{Table}
-use Rattle.exchange.specs.Inner.Grid.{cellSpan}
-use Rattle.exchange.specs.Answers.{found, missed, askedOf, kindAt, cellText, cellPlace}
-use Rattle.exchange.specs.Located.{flagColumn}
+use Rattle.format.specs.Columns.{namesOf}
+use Rattle.format.specs.Places.{Table}
+use Rattle.format.specs.Inner.Grid.{cellSpan}
+use Rattle.format.specs.Answers.{found, missed, askedOf, kindAt, cellText, cellPlace}
 
 -- the cell of row r and column c of the table t, as the code has it
 pub record CellRead (s : List ℕ) (r c : ℕ) (t : Table) (x : Cell) : Type 0 where
@@ -23,11 +22,9 @@ pub record CellRead (s : List ℕ) (r c : ℕ) (t : Table) (x : Cell) : Type 0 w
   pub text : cellAt comma s (x .start) ≡ cellText t s r c
   pub room : x .start + x .len ≤ length s
   pub within : (1 ≤ c) × (c ≤ length (t .names))
-  pub row : Stop comma s (x .at) (x .feed)
   pub cells : (k : ℕ) → cellSpan s (x .at) (k - 1) ≡ cellPlace t s r k
-  pub flag : x .flag ≡ flagColumn t c
   pub names : t .names ≡ namesOf (lineAt s (x .names))
-  pub fed : x .names + length (lineAt s (x .names)) < length s
+  pub inside : x .names ≤ length s
 
 pub record AskedRead (s : List ℕ) (r c : ℕ) (x : Cell) : Type 0 where
   pub stop : (x .number ≡ 0 → ⊥) → askedOf s r c ≡ missed (x .number) (x .line) (x .column)

@@ -2,7 +2,7 @@
 use Prim.Native.Nat.{ℕ}
 use mathlib.Core.List.{List, [], _∷_, _++_, map}
 use lib.ListN.{set}
-use Rattle.text.specs.Bytes.{comma, lineFeed}
+use Rattle.bytes.specs.Bytes.{comma, lineFeed}
 
 -- pieces put together again, one byte c between each two; and lines of cells put together to a file
 unfoldable pub joinLater : ℕ → List (List ℕ) → List ℕ

@@ -3,7 +3,7 @@ use Prim.Native.Nat.{ℕ, _+_, _≤_}
 use mathlib.Core.Path.{_≡_}
 use mathlib.Core.List.{List}
 use lib.ListN.{length}
-use Rattle.text.specs.declared.Span.{Span}
+use Rattle.bytes.specs.declared.Span.{Span}
 use Rattle.numbers.specs.Patches.{patch}
 
 -- there is room in f for a text that ends at e

@@ -1,7 +1,7 @@
 use mathlib.Core.Path.{sym, _∙_}
 use borrow.Author.Needs.{needs}
 use Rattle.correction.proofs.DecideLaws.{number-few, text-longer, text-fits}
-use Rattle.correction.proofs.TestLaws.{number-here, number-later, number-none}
+use Rattle.correction.proofs.FirstNumberLaws.{number-here, number-later, number-none}
 use Rattle.correction.proofs.deciding.broken_rule.Statement.{statement}
 use Rattle.correction.proofs.deciding.broken_rule.Tie as tie
 

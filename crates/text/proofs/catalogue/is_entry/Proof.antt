@@ -2,7 +2,7 @@ use Prim.Native.Nat.{_≤_, _-_}
 use mathlib.Core.Path.{sym, _∙_, _≡_, refl}
 use lib.ListN.{drop}
 use borrow.Author.Needs.{needs}
-use Rattle.text.specs.Bytes.{equal}
+use Rattle.bytes.specs.Bytes.{equal}
 use Rattle.text.specs.Catalogue.{entryAt, padded}
 use Rattle.text.proofs.EntryLaws.{entry-long, entry-end, entry-stop, entry-step}
 use Rattle.text.proofs.catalogue.is_entry.Statement.{statement}

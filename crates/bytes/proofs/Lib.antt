@@ -1,0 +1,8 @@
+pub mod CellLaws
+pub mod CharacterLaws
+pub mod DigitLaws
+pub mod EqualLaws
+pub mod EveryLaws
+pub mod LineLaws
+pub mod NameLaws
+pub mod SpaceLaws

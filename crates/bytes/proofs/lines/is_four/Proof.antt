@@ -1,0 +1,46 @@
+use borrow.Author.Needs.{needs}
+use Rattle.bytes.proofs.lines.is_four.Statement.{statement}
+use Rattle.bytes.proofs.lines.is_four.Tie as tie
+
+in-range-requires : tie.Need-in-range-requires
+in-range-requires c κs = search needs
+
+in-range-requires-2 : tie.Need-in-range-requires-2
+in-range-requires-2 c κs = search needs
+
+in-range-requires-3 : tie.Need-in-range-requires-3
+in-range-requires-3 c κs = search needs
+
+in-range-requires-4 : tie.Need-in-range-requires-4
+in-range-requires-4 c κs = search needs
+
+in-range-requires-5 : tie.Need-in-range-requires-5
+in-range-requires-5 c κs = search needs
+
+in-range-requires-6 : tie.Need-in-range-requires-6
+in-range-requires-6 c κs = search needs
+
+in-range-requires-7 : tie.Need-in-range-requires-7
+in-range-requires-7 c κs = search needs
+
+in-range-requires-8 : tie.Need-in-range-requires-8
+in-range-requires-8 c κs = search needs
+
+returns : tie.Need-returns
+returns c =
+    let c4 = c .before .before .before .before in
+    rw (c4 .before .before .before .in-range .ensures, c4 .before .before .in-range2 .ensures, c4 .before .in-range3 .ensures, c4 .in-range4 .ensures, c .before .before .before .in-range5 .ensures, c .before .before .in-range6 .ensures, c .before .in-range7 .ensures, c .in-range8 .ensures)
+
+pub is-four-spec : {M : Type 1} → statement M
+is-four-spec =
+    tie.close
+    (tie.spec
+    in-range-requires
+    in-range-requires-2
+    in-range-requires-3
+    in-range-requires-4
+    in-range-requires-5
+    in-range-requires-6
+    in-range-requires-7
+    in-range-requires-8
+    returns)

@@ -1,0 +1,3 @@
+pub mod NamesLineLaws
+pub mod ColumnLaws
+pub mod AskedLaws

@@ -1,0 +1,13 @@
+pub mod AcceptLaws
+pub mod EndsLaws
+pub mod FaultLaws
+pub mod GridLaws
+pub mod GridWalkLaws
+pub mod HeadLaws
+pub mod InsideLaws
+pub mod NameLaws
+pub mod NumberLaws
+pub mod OpenedLaws
+pub mod RuleLaws
+pub mod RunLaws
+pub mod VerdictLaws

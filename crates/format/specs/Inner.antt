@@ -1,0 +1,7 @@
+pub mod Faults
+pub mod Grid
+pub mod Heads
+pub mod Lines
+pub mod Names
+pub mod Rows
+pub mod Sorts

@@ -1,0 +1,13 @@
+pub mod Faults
+pub mod LineRules
+pub mod Headers
+pub mod Columns
+pub mod Rows
+pub mod Places
+pub mod Grid
+pub mod Profiles
+pub mod Answers
+pub mod Located
+pub mod Records
+pub mod Opened
+pub mod Inner

@@ -1,0 +1,3 @@
+pub mod ProfileLaws
+pub mod RecordLaws
+pub mod ValueLaws

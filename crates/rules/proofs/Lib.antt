@@ -1,0 +1,7 @@
+pub mod AnswerLaws
+pub mod DataLaws
+pub mod FirstRunLaws
+pub mod FreeLaws
+pub mod HeaderRunLaws
+pub mod LineRunLaws
+pub mod TableLaws

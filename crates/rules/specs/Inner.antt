@@ -1,0 +1,4 @@
+pub mod Data
+pub mod Free
+pub mod Heads
+pub mod Table

@@ -1,4 +1,0 @@
-pub mod Lines
-pub mod Scans
-pub mod Cells
-pub mod Rows
