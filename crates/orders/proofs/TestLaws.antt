@@ -5,7 +5,6 @@ use mathlib.Core.Bool.{Bool, true, false, cond}
 use mathlib.Core.List.{List, [], _∷_}
 use native.Mathlib.Omega.{arith}
 use lib.Dec.{eqb}
-use Rattle.orders.specs.declared.Answer.{Answer}
 use Rattle.orders.specs.declared.Answer.the-variants.{Applied, Refused}
 use Rattle.orders.specs.Corrections.{Test, firstThat}
 use Rattle.orders.specs.Demand3.{IsFirst, nothing, here, later, NoneHolds}

@@ -1,5 +1,5 @@
 -- The words of the contracts of the pass over a line's bytes; no promise of a public call cites them.
-use Prim.Native.Nat.{ℕ, _-_, _≤_}
+use Prim.Native.Nat.{ℕ, _≤_}
 use mathlib.Core.List.{List}
 use Rattle.bytes.specs.Inner.Scans.{Scan}
 use Rattle.bytes.specs.Inner.Lines.{isPlain}

@@ -7,9 +7,6 @@ use Rattle.report_text.specs.Pages.{page, lay}
 use Rattle.report_text.proofs.PageLaws.{byte-room, text-end, text-step}
 use Rattle.report_text.proofs.put.Statement.{statement}
 use Rattle.report_text.proofs.put.Tie as tie
-use Rattle.report_text.proofs.put.Reads as reads
-use Rattle.report_text.proofs.put.Lts as lts
-use Rattle.report_text.proofs.put_byte.Reads as put-byte-reads
 
 abbrev Inv-loop : tie.InvT-loop
 Inv-loop room₀ at t end₀ i₀ room end i = (i ≤ length t) × (length room ≡ length room₀) × (lay (page room₀ at) t ≡ lay (page room end) (drop i t))

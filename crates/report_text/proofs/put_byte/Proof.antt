@@ -1,10 +1,7 @@
 use borrow.Author.Needs.{needs}
-use native.Mathlib.Omega.{arith}
 use Rattle.report_text.proofs.PageLaws.{byte-put, byte-left}
 use Rattle.report_text.proofs.put_byte.Statement.{statement}
 use Rattle.report_text.proofs.put_byte.Tie as tie
-use Rattle.report_text.proofs.put_byte.Reads as reads
-use Rattle.report_text.proofs.put_byte.Lts as lts
 
 -- src/lib.rt:13:9
 slice-write-room : tie.Need-slice-write-room

@@ -1,5 +1,5 @@
 -- The words of the contracts of the data lines' reading; no promise of a public call cites them.
-use Prim.Native.Nat.{ℕ, _+_, _-_, _*_, _≤_, _<_}
+use Prim.Native.Nat.{ℕ, _+_, _*_, _≤_, _<_}
 use mathlib.Core.Path.{_≡_}
 use mathlib.Core.List.{List, _∷_, map}
 use mathlib.Core.Bool.{true, false, cond, _&&_}

@@ -9,9 +9,6 @@ use Rattle.format.specs.Inner.Grid.{skipped}
 use Rattle.format.proofs.GridWalkLaws.{start-none, start-past, start-skipped, skipped-end, skipped-last, skipped-fed, skipped-past}
 use Rattle.lines.proofs.grid.line_start.Statement.{statement}
 use Rattle.lines.proofs.grid.line_start.Tie as tie
-use Rattle.lines.proofs.grid.line_start.Reads as reads
-use Rattle.lines.proofs.grid.line_start.Lts as lts
-use Rattle.lines.proofs.grid.past_blocks.Reads as past-blocks-reads
 
 abbrev Inv-loop : tie.InvT-loop
 Inv-loop s from lines at₀ left₀ at left = (at ≤ length s) × (1 ≤ left) × (skipped s from lines ≡ skipped s at left)

@@ -8,9 +8,6 @@ use Rattle.format.specs.Inner.Grid.{skipped}
 use Rattle.format.proofs.GridWalkLaws.{skipped-block}
 use Rattle.lines.proofs.grid.past_blocks.Statement.{statement}
 use Rattle.lines.proofs.grid.past_blocks.Tie as tie
-use Rattle.lines.proofs.grid.past_blocks.Reads as reads
-use Rattle.lines.proofs.grid.past_blocks.Lts as lts
-use Rattle.lines.proofs.grid.feeds_in_32.Reads as feeds-in-32-reads
 
 abbrev Inv-loop : tie.InvT-loop
 Inv-loop s from lines at₀ left₀ at left = (at ≤ length s) × (1 ≤ left) × (skipped s from lines ≡ skipped s at left)
