@@ -1,4 +1,4 @@
-// The data lines.
+// A data line: its cells judged by their columns' kinds, its missing readings, and its key beside that of another row.
 ghost use mathlib.Core.Path.{_≡_};
 ghost use mathlib.Core.Bool.{cond};
 ghost use Rattle.bytes.specs.Bytes.{equal};
