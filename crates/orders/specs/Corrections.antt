@@ -57,7 +57,7 @@ notCorrectable t o = not (isMeasured t (o .column))
 unfoldable pub badNumber : Order → Bool
 badNumber o = ltb 6 (o .decimals) || (not (ltb (size (o .millionths)) (10 ^ 15)) || not (eqb (size (o .millionths) % 10 ^ (6 - o .decimals)) 0))
 
--- 24: flag not in the set (text's Judge), or not 0 where there is no flag column; by whether the column has one, and whether its name begins with CTD
+-- 24: flag not in the set (verdicts, Judge), or not 0 where there is no flag column; by whether the column has one, and whether its name begins with CTD
 abbrev pub wrongFlag : Bool → Bool → ℕ → Bool
 wrongFlag flagged ctd v = not (cond flagged (inSet ctd v) (eqb v 0))
 
