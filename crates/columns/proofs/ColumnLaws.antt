@@ -2,7 +2,7 @@
 use Prim.Native.Nat.{ℕ, zero, suc, _+_, _-_, _≤_, _<_}
 use mathlib.Core.Path.{_≡_, refl, sym, ap, _∙_, subst}
 use mathlib.Core.List.{List, [], _∷_, _++_, map}
-use mathlib.Core.Bool.{Bool, true, false, cond, not, _&&_, _||_, true≢false}
+use mathlib.Core.Bool.{Bool, true, false, cond, not, _&&_, true≢false}
 use native.Mathlib.Numerals.{add-one}
 use native.Mathlib.Nat.{not-suc-le-zero, le-of-suc-le-suc}
 use native.Mathlib.Omega.{arith}
@@ -28,6 +28,7 @@ use Rattle.format.specs.Inner.Names.{faultIn, textIn, namesAt}
 use Rattle.columns.specs.Inner.Columns.{startOf, Placed, CellsFound, keepsParameter, filled, columnsRefused, columnsBy, columnsFor, ColumnsRead}
 use Rattle.format.proofs.NameLaws.{names-length, name-given, Within, fault-within, place-test}
 use Rattle.columns.proofs.NamesLineLaws.{start-first, start-later, start-next}
+use Rattle.format.proofs.NumberLaws.{Numbered, number-range, numbered-nonzero, flag-numbered, names-numbered}
 use Rattle.format.proofs.RuleLaws.{names-rules}
 
 -- ---- a flag column's parameter, and the kind of a name
@@ -205,42 +206,6 @@ kinds-done ts k n of w h e =
     let o : of ≡ filled (kindsOf (map trim ts)) = w .done ∙ ap (λ (l : List (List ℕ)). filled (kindsOf l)) a in
     (λ j. record { number = 0; column = 0; count = c j; kinds = o j }) ∙ ap (columnsBy (map trim ts)) (sym f)
 
--- ---- the number of a broken rule is not 0
-abbrev Numbered : Fault → Type 0
-Numbered clean = Unit {0}
-Numbered (breaks n c) = 0 < n
-
-numbered-unless : (b : Bool) (n c : ℕ) → 0 < n → Numbered (unless b n c)
-numbered-unless true n c h = tt
-numbered-unless false n c h = h
-
-numbered-then : (a b : Fault) → Numbered a → Numbered b → Numbered (a then b)
-numbered-then clean b x y = y
-numbered-then (breaks n c) b x y = x
-
-names-numbered : (c : ℕ) (earlier ts : List (List ℕ)) → Numbered (nameFault c earlier ts)
-unfolding nameFault nameRules firstOf
-names-numbered c earlier [] = tt
-names-numbered c earlier (t ∷ ts) =
-    numbered-then (unless (ltb (length earlier) 256) 11 c) _ (numbered-unless (ltb (length earlier) 256) 11 c (omega arith))
-    (numbered-then (unless (isName (trim t)) 10 c) _ (numbered-unless (isName (trim t)) 10 c (omega arith))
-    (numbered-then (unless (not (member (trim t) earlier)) 9 c) _ (numbered-unless (not (member (trim t) earlier)) 9 c (omega arith))
-    (names-numbered (c + length t + 1) (earlier ++ trim t ∷ []) ts)))
-
-flags-numbered : (c : ℕ) (ns ts : List (List ℕ)) → Numbered (flagFault c ns ts)
-unfolding flagFault flagRules firstOf
-flags-numbered c ns [] = tt
-flags-numbered c ns (t ∷ ts) =
-    numbered-then (unless (not (isFlag (trim t)) || hasParameter ns (trim t)) 12 c) _ (numbered-unless (not (isFlag (trim t)) || hasParameter ns (trim t)) 12 c (omega arith))
-    (flags-numbered (c + length t + 1) ns ts)
-
-line-numbered : (k : Sort) (x : List ℕ) → Numbered (namesLineFault k x)
-line-numbered k x =
-    rw (names-rules k x)
-    (numbered-then (nameFault 1 [] (pieces 44 x)) _ (names-numbered 1 [] (pieces 44 x))
-    (numbered-then (flagFault 1 (namesOf x) (pieces 44 x)) _ (flags-numbered 1 (namesOf x) (pieces 44 x))
-    (numbered-unless (hasAll (requiredNames k) (namesOf x)) 13 1 (omega arith))))
-
 -- ---- the rules of the names line in their order
 module _ (k : Sort) (x : List ℕ) where
   pub rules-names : (m c : ℕ) → nameFault 1 [] (pieces 44 x) ≡ breaks m c → namesLineFault k x ≡ breaks m c
@@ -268,11 +233,12 @@ module _ (k : Sort) (x : List ℕ) where
         go (breaks m c) d v = rw (rules-flags e m c d) v
 
     flags-clean : r .number ≡ 0 → flagFault 1 (namesOf x) (pieces 44 x) ≡ clean
-    flags-clean z = go (flagFault 1 (namesOf x) (pieces 44 x)) (flags-numbered 1 (namesOf x) (pieces 44 x)) w
+    unfolding flagFault
+    flags-clean z = go (flagFault 1 (namesOf x) (pieces 44 x)) (flag-numbered 1 (namesOf x) (pieces 44 x)) w
       where
         go : (f : Fault) → Numbered f → r ≡ columnsBy (namesOf x) f → f ≡ clean
         go clean d v = refl
-        go (breaks m c) d v = absurd (omega (arith, d, z, ap (λ (y : Columns). y .number) v))
+        go (breaks m c) d v = absurd (numbered-nonzero m c d (sym (ap (λ (y : Columns). y .number) v) ∙ z))
 
     module _ (z : r .number ≡ 0) (b : Bool) (h : hasAll (requiredNames k) (namesOf x) ≡ b) where
       pub names-read : b ≡ true → r ≡ columnsFor k x
@@ -317,8 +283,8 @@ clean-names k x e = go (nameFault 1 [] (pieces 44 x)) (sym (names-rules k x) ∙
     go (breaks n c) e = e
 
 pub columns-read : (k : Sort) (x : List ℕ) (r : Columns) → r ≡ columnsFor k x → ColumnsRead k x r
-unfolding columnsFor
-columns-read k x r e = rw e (go (namesLineFault k x) refl (line-numbered k x))
+unfolding columnsFor namesLineFault
+columns-read k x r e = rw e (go (namesLineFault k x) refl (names-numbered k x))
   where
     go : (f : Fault) → namesLineFault k x ≡ f → Numbered f → ColumnsRead k x (columnsBy (namesOf x) f)
     go clean d m = record {
@@ -329,10 +295,10 @@ columns-read k x r e = rw e (go (namesLineFault k x) refl (line-numbered k x))
           ap (λ (n : ℕ). take n (filled (kindsOf (namesOf x)))) l ∙ take-append-seam (kindsOf (namesOf x)) (replicate (256 - length (kindsOf (namesOf x))) 0);
     }
     go (breaks n c) d m = record {
-      fault = fault-number n c m ∙ sym d;
-      few = λ z. absurd (omega (arith, m, z));
-      many = λ z. absurd (omega (arith, m, z));
-      kinds = λ z. absurd (omega (arith, m, z));
+      fault = fault-number n c (number-range n c m .0) ∙ sym d;
+      few = λ z. absurd (numbered-nonzero n c m z);
+      many = λ z. absurd (numbered-nonzero n c m z);
+      kinds = λ z. absurd (numbered-nonzero n c m z);
     }
 
 -- ---- 11, 10 and 9: the first fault of the first 256 names, else the 257th cell

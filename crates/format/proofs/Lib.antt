@@ -8,6 +8,7 @@ pub mod InsideLaws
 pub mod NameLaws
 pub mod NumberLaws
 pub mod OpenedLaws
+pub mod RefusedLaws
 pub mod RuleLaws
 pub mod RunLaws
 pub mod VerdictLaws

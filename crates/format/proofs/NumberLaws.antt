@@ -1,6 +1,6 @@
--- The numbers of the rules of a file's lines are 1 to 20, and so is that of a refused file.
+-- The first broken rule of each list of rules has a number from 1 to 20.
 use Prim.Native.Nat.{ℕ, zero, suc, _+_, _-_, _≤_}
-use mathlib.Core.Path.{_≡_, refl, sym, _∙_}
+use mathlib.Core.Path.{_≡_, refl}
 use mathlib.Core.List.{List, [], _∷_, _++_}
 use mathlib.Core.Bool.{Bool, true, false, cond, not, _&&_, _||_}
 use native.Mathlib.Omega.{arith}
@@ -9,7 +9,7 @@ use lib.Dec.{eqb, leb, ltb}
 use borrow.Author.Tests.{leb-true}
 use Rattle.bytes.specs.declared.Found.{Found}
 use Rattle.bytes.specs.declared.Found.the-variants.{At, Nowhere}
-use Rattle.bytes.specs.Cells.{pieces}
+use Rattle.bytes.specs.Cells.{pieces, lineAt}
 use Rattle.bytes.specs.Spaces.{trim}
 use Rattle.bytes.specs.Names.{isName}
 use Rattle.verdicts.specs.Verdicts.{Verdict, blank, wrong, outOfRange, good}
@@ -18,14 +18,13 @@ use Rattle.verdicts.specs.Judge.{judge}
 use Rattle.bytes.specs.Lines.{illFormed, returnAt, controlAt}
 use Rattle.bytes.proofs.CellLaws.{both-true}
 use Rattle.format.specs.Faults.{Fault, clean, breaks, _then_, firstOf, unless, kindFault, member, hasAll}
-use Rattle.format.specs.LineRules.{foundFault, lineTooLong, byteRules, lineRules, unendedRules}
+use Rattle.format.specs.LineRules.{foundFault, byteRules, lineRules, unendedRules}
 use Rattle.format.specs.Headers.{Header, rawName, nameOf, valueOf, headerOf, namesIn, headerNameRule, headersSaid, firstHeaderRules, headerKind, headerRules, stationNames, lastHeaderRules}
 use Rattle.format.specs.Columns.{Sort, bottle, ctd, nameRules, isFlag, hasParameter, flagRules, requiredNames, namesOf, namesLineRules, kindsOf}
 use Rattle.format.specs.Rows.{cellRules, rowRules, boundRules, dataLineRules, isEndData}
-use Rattle.format.specs.Places.{Place, first, comments, headers, names, units, rows, after, stopped, isMark, isBottle, isCtd, firstLineRules, isComment, topRules, rulesAt, lastPieceRules, endRules, dueHeaders, afterTop, nextPlace, stopAt, step, refused, last, run, outcomeOf}
-use Rattle.format.specs.Inner.Faults.{unendedFault}
-use Rattle.format.proofs.AcceptLaws.{accepted-not-refused}
-use Rattle.format.proofs.RuleLaws.{Going, faultOutcome, last-cut}
+use Rattle.format.specs.Places.{Place, first, comments, headers, names, units, rows, after, stopped, isMark, isBottle, isCtd, firstLineRules, isComment, topRules, rulesAt, lastPieceRules, endRules}
+use Rattle.format.specs.Inner.Faults.{lineFault, unendedFault}
+use Rattle.format.specs.Inner.Lines.{lineFaultAt}
 
 -- a number of the table, by a test that computes
 abbrev pub inTable : ℕ → Bool
@@ -37,6 +36,9 @@ Numbered (breaks n c) = inTable n ≡ true
 
 pub number-range : (n c : ℕ) → Numbered (breaks n c) → (1 ≤ n) × (n ≤ 20)
 number-range n c e = let w = both-true (leb 1 n) (leb n 20) e in (leb-true 1 n (w .0), leb-true n 20 (w .1))
+
+pub numbered-nonzero : (n c : ℕ) → Numbered (breaks n c) → n ≡ 0 → ⊥
+numbered-nonzero n c e z = omega (arith, number-range n c e .0)
 
 -- ---- one rule
 number-unless : (b : Bool) (n c : ℕ) → inTable n ≡ true → Numbered (unless b n c)
@@ -53,9 +55,13 @@ number-kind wrong c = refl
 number-kind outOfRange c = refl
 number-kind (good m v d) c = tt
 
-number-then : (a b : Fault) → Numbered a → Numbered b → Numbered (a then b)
+pub number-then : (a b : Fault) → Numbered a → Numbered b → Numbered (a then b)
 number-then clean b h g = g
 number-then (breaks n c) b h g = h
+
+pub number-either : (b : Bool) (f g : Fault) → Numbered f → Numbered g → Numbered (cond b f g)
+number-either true f g h k = h
+number-either false f g h k = k
 
 -- ---- the first broken one of some rules
 abbrev pub FirstNumbered : List Fault → Type 0
@@ -79,19 +85,6 @@ pub either-numbered : (b : Bool) (xs ys : List Fault) → FirstNumbered xs → F
 either-numbered true xs ys h g = h
 either-numbered false xs ys h g = g
 
--- ---- the lists of the places
-line-numbered : (control : Bool) (x : List ℕ) → FirstNumbered (lineRules control x)
-unfolding firstOf lineRules byteRules
-line-numbered control x =
-    number-then (lineTooLong x) _ (number-unless (leb (length x) 8192) 1 8193 refl)
-    (number-then (foundFault 3 (illFormed x)) _ (number-found 3 (illFormed x) refl)
-    (number-then (foundFault 4 (returnAt x)) _ (number-found 4 (returnAt x) refl)
-    (number-then (cond control (foundFault 5 (controlAt x)) clean) clean (go control) tt)))
-  where
-    go : (b : Bool) → Numbered (cond b (foundFault 5 (controlAt x)) clean)
-    go true = number-found 5 (controlAt x) refl
-    go false = tt
-
 unless-numbered : (b : Bool) (n c : ℕ) (rs : List Fault) → inTable n ≡ true → FirstNumbered rs → FirstNumbered (unless b n c ∷ rs)
 unless-numbered b n c rs h g = first-numbered (unless b n c) rs (number-unless b n c h) g
 
@@ -101,6 +94,31 @@ one-numbered b n c h = unless-numbered b n c [] h none-numbered
 kind-numbered : (v : Verdict) (c : ℕ) (rs : List Fault) → FirstNumbered rs → FirstNumbered (kindFault v c ∷ rs)
 kind-numbered v c rs g = first-numbered (kindFault v c) rs (number-kind v c) g
 
+-- ---- the lists of the places
+line-numbered : (control : Bool) (x : List ℕ) → FirstNumbered (lineRules control x)
+unfolding lineRules byteRules
+line-numbered control x =
+    unless-numbered (leb (length x) 8192) 1 8193 _ refl
+    (first-numbered (foundFault 3 (illFormed x)) _ (number-found 3 (illFormed x) refl)
+    (first-numbered (foundFault 4 (returnAt x)) _ (number-found 4 (returnAt x) refl)
+    (first-numbered (cond control (foundFault 5 (controlAt x)) clean) []
+    (number-either control (foundFault 5 (controlAt x)) clean (number-found 5 (controlAt x) refl) tt) none-numbered)))
+
+unended-numbered : (x : List ℕ) → FirstNumbered (unendedRules x)
+unfolding unendedRules
+unended-numbered x = unless-numbered (leb (length x) 8192) 1 8193 _ refl (first-numbered (breaks 2 (length x + 1)) [] refl none-numbered)
+
+-- a line by place, with its line feed or without
+pub line-at-numbered : (control : Bool) (s : List ℕ) (i : ℕ) → Numbered (lineFaultAt control s i)
+unfolding lineFaultAt lineFault unendedFault
+line-at-numbered control s i =
+    let x = lineAt s i in
+    number-either (ltb (i + length x) (length s)) (lineFault control x) (unendedFault x) (line-numbered control x) (unended-numbered x)
+
+pub first-line-numbered : (x : List ℕ) → FirstNumbered (firstLineRules x)
+unfolding firstLineRules
+first-line-numbered x = unless-numbered (not (isMark x)) 6 1 _ refl (one-numbered (isBottle x || isCtd x) 7 1 refl)
+
 name-numbered : (c : ℕ) (earlier ts : List (List ℕ)) → FirstNumbered (nameRules c earlier ts)
 unfolding nameRules
 name-numbered c earlier [] = none-numbered
@@ -109,12 +127,12 @@ name-numbered c earlier (t ∷ ts) =
     (unless-numbered (isName (trim t)) 10 c _ refl
     (unless-numbered (not (member (trim t) earlier)) 9 c _ refl (name-numbered (c + length t + 1) (earlier ++ trim t ∷ []) ts)))
 
-flag-numbered : (c : ℕ) (ns ts : List (List ℕ)) → FirstNumbered (flagRules c ns ts)
+pub flag-numbered : (c : ℕ) (ns ts : List (List ℕ)) → FirstNumbered (flagRules c ns ts)
 unfolding flagRules
 flag-numbered c ns [] = none-numbered
 flag-numbered c ns (t ∷ ts) = unless-numbered (not (isFlag (trim t)) || hasParameter ns (trim t)) 12 c _ refl (flag-numbered (c + length t + 1) ns ts)
 
-names-numbered : (k : Sort) (x : List ℕ) → FirstNumbered (namesLineRules k x)
+pub names-numbered : (k : Sort) (x : List ℕ) → FirstNumbered (namesLineRules k x)
 unfolding namesLineRules
 names-numbered k x =
     let a = nameRules 1 [] (pieces 44 x) in
@@ -140,30 +158,31 @@ unfolding lastHeaderRules
 last-numbered zero hs = one-numbered (hasAll stationNames (namesIn hs)) 13 1 refl
 last-numbered (suc due) hs = none-numbered
 
-header-name : (x : List ℕ) (rs : List Fault) → FirstNumbered rs → FirstNumbered (headerNameRule x ∷ rs)
+pub header-name-numbered : (x : List ℕ) → Numbered (headerNameRule x)
 unfolding headerNameRule
-header-name x rs g = unless-numbered (ltb (length (rawName x)) (length x) && leb (length (nameOf x)) 64 && isName (nameOf x)) 8 1 rs refl g
+header-name-numbered x = number-unless (ltb (length (rawName x)) (length x) && leb (length (nameOf x)) 64 && isName (nameOf x)) 8 1 refl
 
-top-numbered : (k : Sort) (x : List ℕ) → FirstNumbered (topRules k x)
+pub first-header-numbered : (x : List ℕ) → FirstNumbered (firstHeaderRules x)
 unfolding firstHeaderRules
-top-numbered bottle x = names-numbered bottle x
-top-numbered ctd x =
-    append-numbered (headerNameRule x ∷ unless (ltb 0 (headersSaid x)) 8 1 ∷ []) _ (header-name x _ (one-numbered (ltb 0 (headersSaid x)) 8 1 refl))
-    (last-numbered (headersSaid x - 1) (headerOf x ∷ []))
+first-header-numbered x = first-numbered (headerNameRule x) _ (header-name-numbered x) (one-numbered (ltb 0 (headersSaid x)) 8 1 refl)
 
-header-numbered : (earlier : List (List ℕ)) (x : List ℕ) → FirstNumbered (headerRules earlier x)
+pub header-numbered : (earlier : List (List ℕ)) (x : List ℕ) → FirstNumbered (headerRules earlier x)
 unfolding headerRules
 header-numbered earlier x =
-    header-name x _ (unless-numbered (not (member (nameOf x) earlier)) 9 1 _ refl
+    first-numbered (headerNameRule x) _ (header-name-numbered x) (unless-numbered (not (member (nameOf x) earlier)) 9 1 _ refl
     (kind-numbered (judge (kindOf (headerKind (nameOf x))) (valueOf x)) (length (rawName x) + 2) [] none-numbered))
+
+top-numbered : (k : Sort) (x : List ℕ) → FirstNumbered (topRules k x)
+top-numbered bottle x = names-numbered bottle x
+top-numbered ctd x = append-numbered (firstHeaderRules x) _ (first-header-numbered x) (last-numbered (headersSaid x - 1) (headerOf x ∷ []))
 
 -- ---- a line at its place, and the file's end
 own-numbered : (x : List ℕ) (rs : List Fault) → FirstNumbered rs → FirstNumbered (lineRules true x ++ rs)
 own-numbered x rs g = append-numbered (lineRules true x) rs (line-numbered true x) g
 
 pub rules-numbered : (p : Place) (x : List ℕ) → FirstNumbered (rulesAt p x)
-unfolding rulesAt firstLineRules
-rules-numbered first x = own-numbered x _ (unless-numbered (not (isMark x)) 6 1 _ refl (one-numbered (isBottle x || isCtd x) 7 1 refl))
+unfolding rulesAt
+rules-numbered first x = own-numbered x (firstLineRules x) (first-line-numbered x)
 rules-numbered (comments k) x = either-numbered (isComment x) (lineRules false x) (lineRules true x ++ topRules k x) (line-numbered false x) (own-numbered x (topRules k x) (top-numbered k x))
 rules-numbered (headers due hs) x =
     own-numbered x _ (append-numbered (headerRules (namesIn hs) x) _ (header-numbered (namesIn hs) x) (last-numbered (due - 1) (hs ++ headerOf x ∷ [])))
@@ -176,9 +195,9 @@ rules-numbered (after t n) x = line-numbered false x
 rules-numbered (stopped a b c) x = none-numbered
 
 last-line-numbered : (due : Bool) (x : List ℕ) → FirstNumbered (lastPieceRules due x)
-unfolding lastPieceRules unendedRules
+unfolding lastPieceRules
 last-line-numbered due [] = one-numbered (not due) 14 1 refl
-last-line-numbered due (x ∷ xs) = unless-numbered (leb (length (x ∷ xs)) 8192) 1 8193 _ refl (first-numbered (breaks 2 (length (x ∷ xs) + 1)) [] refl none-numbered)
+last-line-numbered due (x ∷ xs) = unended-numbered (x ∷ xs)
 
 pub end-numbered : (p : Place) (x : List ℕ) → FirstNumbered (endRules p x)
 unfolding endRules
@@ -190,91 +209,3 @@ end-numbered (units k hs ns) x = last-line-numbered true x
 end-numbered (rows t n) x = last-line-numbered true x
 end-numbered (after t n) x = last-line-numbered false x
 end-numbered (stopped a b c) x = none-numbered
-
--- ---- a refused file
-refused-number : {a b c m l d : ℕ} → refused m l d ≡ refused a b c → m ≡ a
-refused-number e = cc
-
-abbrev PlaceNumbered : Place → Type 0
-PlaceNumbered first = Unit {0}
-PlaceNumbered (comments k) = Unit {0}
-PlaceNumbered (headers due hs) = Unit {0}
-PlaceNumbered (names k hs) = Unit {0}
-PlaceNumbered (units k hs ns) = Unit {0}
-PlaceNumbered (rows t n) = Unit {0}
-PlaceNumbered (after t n) = Unit {0}
-PlaceNumbered (stopped a b c) = inTable a ≡ true
-
-due-numbered : (due : ℕ) (hs : List Header) → PlaceNumbered (dueHeaders due hs)
-due-numbered zero hs = tt
-due-numbered (suc due) hs = tt
-
-next-numbered : (l : ℕ) (p : Place) (x : List ℕ) → PlaceNumbered p → PlaceNumbered (nextPlace l p x)
-unfolding nextPlace
-next-numbered l first x h = tt
-next-numbered l (comments k) x h = go (isComment x) k
-  where
-    go : (z : Bool) (k : Sort) → PlaceNumbered (cond z (comments k) (afterTop k x))
-    go true k = tt
-    go false bottle = tt
-    go false ctd = due-numbered (headersSaid x - 1) (headerOf x ∷ [])
-next-numbered l (headers due hs) x h = due-numbered (due - 1) (hs ++ headerOf x ∷ [])
-next-numbered l (names k hs) x h = tt
-next-numbered l (units k hs ns) x h = tt
-next-numbered l (rows t n) x h = go (isEndData x)
-  where
-    go : (z : Bool) → PlaceNumbered (cond z (after t n) (rows t (n + 1)))
-    go true = tt
-    go false = tt
-next-numbered l (after t n) x h = tt
-next-numbered l (stopped a b c) x h = h
-
-stop-numbered : (l : ℕ) (f : Fault) (p : Place) → Numbered f → PlaceNumbered p → PlaceNumbered (stopAt l f p)
-stop-numbered l clean p h g = g
-stop-numbered l (breaks n c) p h g = h
-
-step-numbered : (l : ℕ) (p : Place) (x : List ℕ) → PlaceNumbered p → PlaceNumbered (step l p x)
-step-numbered l p x h = stop-numbered l (firstOf (rulesAt p x)) (nextPlace l p x) (rules-numbered p x) (next-numbered l p x h)
-
--- at the file's end: 14, or a last line that has no line feed
-module _ (l : ℕ) {a b c : ℕ} where
-  none-refused : (p : Place) → PlaceNumbered p → last l p [] ≡ refused a b c → inTable a ≡ true
-  unfolding endRules lastPieceRules firstOf
-  none-refused first h e = rw (sym (refused-number e))
-  none-refused (comments k) h e = rw (sym (refused-number e))
-  none-refused (headers due hs) h e = rw (sym (refused-number e))
-  none-refused (names k hs) h e = rw (sym (refused-number e))
-  none-refused (units k hs ns) h e = rw (sym (refused-number e))
-  none-refused (rows t n) h e = rw (sym (refused-number e))
-  none-refused (after t n) h e = absurd (accepted-not-refused (sym e))
-  none-refused (stopped m k d) h e = rw (sym (refused-number e)) h
-
-  cut-number : (p : Place) (x : ℕ) (xs : List ℕ) → Going p → last l p (x ∷ xs) ≡ refused a b c → inTable a ≡ true
-  unfolding unendedFault unendedRules firstOf
-  cut-number p x xs g e = go (leb (length (x ∷ xs)) 8192) (sym (last-cut l p (x ∷ xs) (omega arith) g) ∙ e)
-    where
-      go : (z : Bool) → faultOutcome l (unless z 1 8193 then breaks 2 (length (x ∷ xs) + 1) then clean) ≡ refused a b c → inTable a ≡ true
-      go true e = rw (sym (refused-number e))
-      go false e = rw (sym (refused-number e))
-
-  cut-numbered : (p : Place) (x : ℕ) (xs : List ℕ) → PlaceNumbered p → last l p (x ∷ xs) ≡ refused a b c → inTable a ≡ true
-  unfolding endRules firstOf
-  cut-numbered first x xs h e = cut-number first x xs tt e
-  cut-numbered (comments k) x xs h e = cut-number (comments k) x xs tt e
-  cut-numbered (headers due hs) x xs h e = cut-number (headers due hs) x xs tt e
-  cut-numbered (names k hs) x xs h e = cut-number (names k hs) x xs tt e
-  cut-numbered (units k hs ns) x xs h e = cut-number (units k hs ns) x xs tt e
-  cut-numbered (rows t n) x xs h e = cut-number (rows t n) x xs tt e
-  cut-numbered (after t n) x xs h e = cut-number (after t n) x xs tt e
-  cut-numbered (stopped m k d) x xs h e = rw (sym (refused-number e)) h
-
-run-numbered : (ps : List (List ℕ)) (l : ℕ) (p : Place) {a b c : ℕ} → PlaceNumbered p → run l p ps ≡ refused a b c → inTable a ≡ true
-unfolding run
-run-numbered [] l p h e = none-refused l p h e
-run-numbered ([] ∷ []) l p h e = none-refused l p h e
-run-numbered ((x ∷ xs) ∷ []) l p h e = cut-numbered l p x xs h e
-run-numbered (x ∷ (y ∷ ys)) l p h e = run-numbered (y ∷ ys) (l + 1) (step l p x) (step-numbered l p x h) e
-
-pub refused-numbered : (f : List ℕ) {a b c : ℕ} → outcomeOf f ≡ refused a b c → a ≡ 0 → ⊥
-unfolding outcomeOf
-refused-numbered f {a} {b} {c} e z = omega (arith, number-range a c (run-numbered (pieces 10 f) 1 first tt e) .0)

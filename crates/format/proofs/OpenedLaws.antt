@@ -24,7 +24,7 @@ use Rattle.format.proofs.AcceptLaws.{RowKept, rows-kept, rows-some}
 use Rattle.format.proofs.GridLaws.{total-pieces, total-starts, place-of-line, lines-at, line-fed, RowAt, row-at}
 use Rattle.format.proofs.HeadLaws.{HeadsIn, NamesKept, lines-before, heads-kept, names-kept}
 use Rattle.format.proofs.HeadLaws as heads
-use Rattle.format.proofs.NumberLaws.{refused-numbered}
+use Rattle.format.proofs.RefusedLaws.{refused-numbered}
 use Rattle.format.proofs.RunLaws.{lines-more}
 
 -- ---- line k of a file, from 0, that another follows

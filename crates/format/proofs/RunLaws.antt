@@ -7,19 +7,17 @@ use native.Mathlib.Omega.{arith}
 use lib.ListN.{length, getD, take, drop, length-drop, drop-of-length-le}
 use lib.Seq.{drop-drop, getD-drop}
 use lib.Dec.{eqb, ltb, leb}
-use borrow.Author.Tests.{eqb-true, ltb-true, ltb-false, lt-ltb, leb-true}
-use Rattle.bytes.specs.declared.Found.{Found}
-use Rattle.bytes.specs.declared.Found.the-variants.{At, Nowhere}
+use borrow.Author.Tests.{eqb-true, ltb-true, ltb-false, leb-true}
 use Rattle.bytes.specs.Cells.{firstPiece, laterPieces, pieces, lineAt}
-use Rattle.bytes.specs.Lines.{illFormed, returnAt, controlAt}
 use Rattle.bytes.specs.Inner.Scans.{Stop}
 use Rattle.format.specs.declared.Line.{Line}
-use Rattle.format.specs.Faults.{Fault, clean, breaks, _then_, unless, firstOf}
-use Rattle.format.specs.LineRules.{foundFault, lineTooLong, lineRules, byteRules, unendedRules}
+use Rattle.format.specs.Faults.{Fault, clean, breaks, unless, firstOf}
+use Rattle.format.specs.LineRules.{lineTooLong, lineRules, byteRules, unendedRules}
 use Rattle.format.specs.Places.{Place, stopped, rulesAt, endRules, nextPlace, step, refused, run}
 use Rattle.format.specs.Inner.Faults.{lineFault, unendedFault, asFault}
 use Rattle.format.specs.Inner.Lines.{linesFrom, StartsAt, lineFaultAt, lineFor, lineOf}
 use Rattle.format.proofs.RuleLaws.{Going, faultOutcome, last-cut}
+use Rattle.format.proofs.NumberLaws.{Numbered, numbered-nonzero, line-at-numbered}
 use Rattle.format.proofs.FaultLaws.{breaks-clean, then-clean}
 
 -- after a broken rule nothing changes
@@ -103,63 +101,32 @@ unfolding run
 run-cut l p x h g = last-cut l p x h g
 
 -- ---- rules 1 to 5 of a line, which `line_at` gives by their number
-abbrev Numbered : Fault → Type 0
-Numbered clean = ℕ
-Numbered (breaks n c) = n ≡ 0 → ⊥
-
-numbered-then : (f g : Fault) → Numbered f → Numbered g → Numbered (f then g)
-numbered-then clean g a b = b
-numbered-then (breaks n c) g a b = a
-
-numbered-unless : (b : Bool) (n c : ℕ) → (n ≡ 0 → ⊥) → Numbered (unless b n c)
-numbered-unless true n c h = 0
-numbered-unless false n c h = h
-
-numbered-found : (n : ℕ) (r : Found) → (n ≡ 0 → ⊥) → Numbered (foundFault n r)
-numbered-found n (At i) h = h
-numbered-found n Nowhere h = 0
-
-numbered-cond : (b : Bool) (f : Fault) → Numbered f → Numbered (cond b f clean)
-numbered-cond true f h = h
-numbered-cond false f h = 0
-
-numbered-rules : (control : Bool) (x : List ℕ) → Numbered (lineFault control x)
-unfolding lineFault lineRules byteRules firstOf
-numbered-rules control x =
-    numbered-then (lineTooLong x) _ (numbered-unless (leb (length x) 8192) 1 8193 (λ e. omega arith))
-    (numbered-then (foundFault 3 (illFormed x)) _ (numbered-found 3 (illFormed x) (λ e. omega arith))
-    (numbered-then (foundFault 4 (returnAt x)) _ (numbered-found 4 (returnAt x) (λ e. omega arith))
-    (numbered-then (cond control (foundFault 5 (controlAt x)) clean) clean (numbered-cond control (foundFault 5 (controlAt x)) (numbered-found 5 (controlAt x) (λ e. omega arith))) 0)))
-
 numbered-clean : (f : Fault) (e : ℕ) → Numbered f → lineFor f e .number ≡ 0 → f ≡ clean
 numbered-clean clean e a h = refl
-numbered-clean (breaks n c) e a h = absurd (a h)
+numbered-clean (breaks n c) e a h = absurd (numbered-nonzero n c a h)
 
-unended-number : (x : List ℕ) (e : ℕ) → lineFor (unendedFault x) e .number ≡ 0 → ⊥
+unended-broken : (x : List ℕ) → unendedFault x ≡ clean → ⊥
 unfolding unendedFault unendedRules firstOf
-unended-number x e h = go (leb (length x) 8192) h
-  where
-    go : (b : Bool) → lineFor (unless b 1 8193 then breaks 2 (length x + 1)) e .number ≡ 0 → ⊥
-    go true h = omega arith
-    go false h = omega arith
+unended-broken x e = breaks-clean 2 (length x + 1) (then-clean (lineTooLong x) _ e .1)
 
 module _ (control : Bool) (s : List ℕ) (i : ℕ) where
   -- number 0: the line keeps rules 1 to 5, and its line feed stands at `end`
+  pub line-zero : lineOf control s i .number ≡ 0 → lineFaultAt control s i ≡ clean
+  unfolding lineOf
+  line-zero z = numbered-clean (lineFaultAt control s i) _ (line-at-numbered control s i) z
+
   pub line-clean : lineOf control s i .number ≡ 0
       → (lineFault control (lineAt s i) ≡ clean) × (i + length (lineAt s i) < length s) × (lineOf control s i .end ≡ i + length (lineAt s i)) × (getD s (lineOf control s i .end) 0 ≡ 10)
   unfolding lineOf lineFaultAt
-  line-clean h = go (ltb (i + length (lineAt s i)) (length s)) refl h
+  line-clean h = go (ltb (i + length (lineAt s i)) (length s)) refl (line-zero h)
     where
       go : (b : Bool) → ltb (i + length (lineAt s i)) (length s) ≡ b
-          → lineFor (cond b (lineFault control (lineAt s i)) (unendedFault (lineAt s i))) (i + length (lineAt s i)) .number ≡ 0
+          → cond b (lineFault control (lineAt s i)) (unendedFault (lineAt s i)) ≡ clean
           → (lineFault control (lineAt s i) ≡ clean) × (i + length (lineAt s i) < length s)
           × (lineFor (cond b (lineFault control (lineAt s i)) (unendedFault (lineAt s i))) (i + length (lineAt s i)) .end ≡ i + length (lineAt s i))
           × (getD s (lineFor (cond b (lineFault control (lineAt s i)) (unendedFault (lineAt s i))) (i + length (lineAt s i)) .end) 0 ≡ 10)
-      go true e h =
-          let f = numbered-clean (lineFault control (lineAt s i)) _ (numbered-rules control (lineAt s i)) h in
-          let k = ltb-true _ _ e in
-          (f, k, rw f, rw f (line-feed s i k))
-      go false e h = absurd (unended-number (lineAt s i) _ h)
+      go true e f = let k = ltb-true _ _ e in (f, k, rw f, rw f (line-feed s i k))
+      go false e f = absurd (unended-broken (lineAt s i) f)
 
   -- another number: the run from this line on is refused there
   pub line-broken-here : (l : ℕ) (p : Place) → i < length s → (lineOf control s i .number ≡ 0 → ⊥)
@@ -229,10 +196,6 @@ module _ (control : Bool) (s : List ℕ) (i : ℕ) (r : Line) (e : r ≡ lineOf 
 
 -- ---- rules 1 to 5, which `line_at` gives by their number
 module _ (control : Bool) (s : List ℕ) (i : ℕ) where
-  pub line-zero : lineOf control s i .number ≡ 0 → lineFaultAt control s i ≡ clean
-  unfolding lineFaultAt
-  line-zero z = let h = line-clean control s i z in rw (lt-ltb _ _ (h .1)) (h .0)
-
   pub zero-line : lineFaultAt control s i ≡ clean → lineOf control s i .number ≡ 0
   unfolding lineOf
   zero-line e = rw e
@@ -243,7 +206,7 @@ module _ (control : Bool) (s : List ℕ) (i : ℕ) where
     where
       go : (f : Fault) → lineFaultAt control s i ≡ f → asFault (lineFor f (i + length (lineAt s i)) .number) (lineFor f (i + length (lineAt s i)) .column) ≡ f
       go clean p = refl
-      go (breaks zero c) p = absurd (breaks-clean 0 c (sym p ∙ line-zero (rw p)))
+      go (breaks zero c) p = absurd (breaks-clean 0 c (sym p ∙ line-zero control s i (rw p)))
       go (breaks (suc n) c) p = refl
 
 -- a line that keeps them is short

@@ -17,9 +17,9 @@ use Rattle.format.specs.Faults.{Fault, clean, breaks, _then_, firstOf, unless}
 use Rattle.format.specs.Places.{isMark, isBottle, isCtd, firstLineRules}
 use Rattle.format.specs.Inner.Lines.{lineFaultAt, lineOf}
 use Rattle.headers.specs.Inner.First.{kindSaid, firstFault, noFirst, firstBy, firstFor}
-use Rattle.headers.proofs.HeaderLaws.{Numbered, numbered-line, numbered-then, numbered-unless}
 use Rattle.format.proofs.GridWalkLaws.{cell-slice}
 use Rattle.format.proofs.RunLaws.{piece-in, piece-take, line-fault, line-zero, line-ends}
+use Rattle.format.proofs.NumberLaws.{Numbered, numbered-nonzero, number-then, number-either, line-at-numbered, first-line-numbered}
 use Rattle.format.proofs.FaultLaws.{breaks-clean, fault-broken}
 
 -- ---- the text before line 1's first comma
@@ -102,19 +102,11 @@ module _ (s : List ℕ) (h : length s ≡ 0 → ⊥) where
             go false false h = absurd (h refl)
 
 -- ---- what a caller has of it
-numbered-first : (s : List ℕ) → Numbered (firstFault s)
-unfolding firstFault firstLineRules firstOf
-numbered-first s = one (eqb (length s) 0)
-  where
-    one : (b : Bool) → Numbered (cond b (breaks 14 1) (lineFaultAt true s 0 then firstOf (firstLineRules (lineAt s 0))))
-    one true = λ y. omega arith
-    one false =
-        let x = lineAt s 0 in
-        let f = unless (not (isMark x)) 6 1 in
-        let g = unless (isBottle x || isCtd x) 7 1 in
-        numbered-then (lineFaultAt true s 0) (f then g then clean) (numbered-line s 0)
-        (numbered-then f (g then clean) (numbered-unless (not (isMark x)) 6 1 (λ y. omega arith))
-        (numbered-then g clean (numbered-unless (isBottle x || isCtd x) 7 1 (λ y. omega arith)) tt))
+first-numbered : (s : List ℕ) → Numbered (firstFault s)
+unfolding firstFault
+first-numbered s =
+    number-either (eqb (length s) 0) (breaks 14 1) _ refl
+    (number-then (lineFaultAt true s 0) (firstOf (firstLineRules (lineAt s 0))) (line-at-numbered true s 0) (first-line-numbered (lineAt s 0)))
 
 module _ (s : List ℕ) (r : First) (e : r ≡ firstFor s) where
   pub first-breaks : (r .number ≡ 0 → ⊥) → firstFault s ≡ breaks (r .number) (r .column)
@@ -128,11 +120,11 @@ module _ (s : List ℕ) (r : First) (e : r ≡ firstFor s) where
   module _ (z : r .number ≡ 0) where
     pub first-clean : firstFault s ≡ clean
     unfolding firstBy
-    first-clean = go (firstFault s) e (numbered-first s)
+    first-clean = go (firstFault s) e (first-numbered s)
       where
         go : (g : Fault) → r ≡ firstBy g s → Numbered g → g ≡ clean
         go clean p m = refl
-        go (breaks n c) p m = absurd (m (sym (ap (λ (x : First). x .number) p) ∙ z))
+        go (breaks n c) p m = absurd (numbered-nonzero n c m (sym (ap (λ (x : First). x .number) p) ∙ z))
 
     -- the file is not empty; where the next line starts, and the kind
     pub first-full : length s ≡ 0 → ⊥

@@ -34,6 +34,7 @@ use Rattle.headers.specs.Inner.Headers.{Parted, namedFaultAt, firstHeade
 use Rattle.format.proofs.NameLaws.{place-member, names-few, names-length}
 use Rattle.format.proofs.RuleLaws.{then-none}
 use Rattle.format.proofs.RunLaws.{piece-in, piece-take, line-feed, line-clean, line-zero, zero-line, line-fault, line-short, line-ends, line-rules}
+use Rattle.format.proofs.NumberLaws.{Numbered, numbered-nonzero, number-then, line-at-numbered, header-name-numbered, first-header-numbered, header-numbered}
 use Rattle.format.proofs.FaultLaws.{breaks-clean, fault-clean, fault-broken, then-clean, then-second}
 
 -- ---- what is left of a first piece
@@ -120,63 +121,6 @@ module _ (x : List ℕ) where
       go true false d p q e = absurd (breaks-clean 8 1 e)
       go false b d p q e = absurd (breaks-clean 8 1 e)
 
--- ---- every rule of a header line has a number
-abbrev pub Numbered : Fault → Type 0
-Numbered clean = Unit {0}
-Numbered (breaks n c) = n ≡ 0 → ⊥
-
-pub numbered-then : (f g : Fault) → Numbered f → Numbered g → Numbered (f then g)
-numbered-then clean g a b = b
-numbered-then (breaks n c) g a b = a
-
-pub numbered-unless : (b : Bool) (n c : ℕ) → (n ≡ 0 → ⊥) → Numbered (unless b n c)
-numbered-unless true n c h = tt
-numbered-unless false n c h = h
-
-numbered-kind : (w : Verdict) (c : ℕ) → Numbered (kindFault w c)
-numbered-kind blank c = λ e. omega arith
-numbered-kind wrong c = λ e. omega arith
-numbered-kind outOfRange c = λ e. omega arith
-numbered-kind (good m v d) c = tt
-
-pub numbered-line : (s : List ℕ) (i : ℕ) → Numbered (lineFaultAt true s i)
-unfolding lineOf
-numbered-line s i = go (lineFaultAt true s i) refl
-  where
-    go : (f : Fault) → lineFaultAt true s i ≡ f → Numbered f
-    go clean e = tt
-    go (breaks n c) e = λ z. breaks-clean n c (sym e ∙ line-zero true s i (rw e z))
-
-module _ (s : List ℕ) (i : ℕ) where
-  numbered-name : Numbered (headerNameRule (lineAt s i))
-  unfolding headerNameRule
-  numbered-name =
-      let x = lineAt s i in
-      numbered-unless (ltb (length (rawName x)) (length x) && leb (length (nameOf x)) 64 && isName (nameOf x)) 8 1 (λ e. omega arith)
-
-  numbered-named : Numbered (namedFaultAt s i)
-  numbered-named = numbered-then (lineFaultAt true s i) (headerNameRule (lineAt s i)) (numbered-line s i) numbered-name
-
-  numbered-first : Numbered (firstHeaderFaultAt s i)
-  unfolding firstHeaderFault firstHeaderRules firstOf
-  numbered-first =
-      let x = lineAt s i in
-      let g = unless (ltb 0 (headersSaid x)) 8 1 in
-      numbered-then (lineFaultAt true s i) (headerNameRule x then g then clean) (numbered-line s i)
-      (numbered-then (headerNameRule x) (g then clean) numbered-name (numbered-then g clean (numbered-unless (ltb 0 (headersSaid x)) 8 1 (λ e. omega arith)) tt))
-
-  numbered-header : (earlier : List (List ℕ)) → Numbered (headerFaultAt earlier s i)
-  unfolding headerFault headerRules firstOf
-  numbered-header earlier =
-      let x = lineAt s i in
-      let g = unless (not (member (nameOf x) earlier)) 9 1 in
-      let w = judge (kindOf (headerKind (nameOf x))) (valueOf x) in
-      let k = kindFault w (length (rawName x) + 2) in
-      numbered-then (lineFaultAt true s i) (headerNameRule x then g then k then clean) (numbered-line s i)
-      (numbered-then (headerNameRule x) (g then k then clean) numbered-name
-      (numbered-then g (k then clean) (numbered-unless (not (member (nameOf x) earlier)) 9 1 (λ e. omega arith))
-      (numbered-then k clean (numbered-kind w (length (rawName x) + 2)) tt)))
-
 -- ---- a header line by what its rules say
 module _ (f : Fault) (s : List ℕ) (i : ℕ) (r : Header) where
   pub header-refused : (n c : ℕ) → r ≡ noHeader n c → f ≡ breaks n c → r ≡ headerFor f s i
@@ -198,7 +142,7 @@ module _ (f : Fault) (s : List ℕ) (i : ℕ) (r : Header) where
       where
         go : (g : Fault) → f ≡ g → Numbered g → f ≡ clean
         go clean p m = p
-        go (breaks n c) p m = absurd (m (let d : r .number ≡ n = rw (e, p) in sym d ∙ z))
+        go (breaks n c) p m = absurd (numbered-nonzero n c m (let d : r .number ≡ n = rw (e, p) in sym d ∙ z))
 
 -- ---- the line up to its name, as `named_line` reads it
 module _ (s : List ℕ) (i : ℕ) (l : Line) (el : l ≡ lineOf true s i) where
@@ -275,7 +219,9 @@ module _ (s : List ℕ) (i : ℕ) (e : namedFaultAt s i ≡ clean) where
 -- what is had of the line up to its name
 module _ (s : List ℕ) (i : ℕ) (h : Header) (e : h ≡ headerFor (namedFaultAt s i) s i) (z : h .number ≡ 0) where
   named-clean : namedFaultAt s i ≡ clean
-  named-clean = header-clean (namedFaultAt s i) s i h e (numbered-named s i) z
+  named-clean =
+      let x = lineAt s i in
+      header-clean (namedFaultAt s i) s i h e (number-then (lineFaultAt true s i) (headerNameRule x) (line-at-numbered true s i) (header-name-numbered x)) z
 
   pub named-read : HeaderKept (namedFaultAt s i) s i (h .equals) (h .end)
   named-read = line-kept s i named-clean (namedFaultAt s i) named-clean h e
@@ -369,7 +315,9 @@ module _ (s : List ℕ) (i : ℕ) (earlier : List (List ℕ)) where
     pub header-kept : r .number ≡ 0 → HeaderKept (headerFaultAt earlier s i) s i (r .equals) (r .end)
     unfolding headerFault headerRules firstOf
     header-kept z =
-        let f = header-clean (headerFaultAt earlier s i) s i r e (numbered-header s i earlier) z in
+        let x = lineAt s i in
+        let m = number-then (lineFaultAt true s i) (headerFault earlier x) (line-at-numbered true s i) (header-numbered earlier x) in
+        let f = header-clean (headerFaultAt earlier s i) s i r e m z in
         let a = then-clean (lineFaultAt true s i) _ f in
         let b : headerNameRule (lineAt s i) ≡ clean = then-clean (headerNameRule (lineAt s i)) _ (a .1) .0 in
         line-kept s i (ap (λ (g : Fault). g then headerNameRule (lineAt s i)) (a .0) ∙ b) (headerFaultAt earlier s i) f r e
@@ -451,12 +399,14 @@ module _ (s : List ℕ) (i : ℕ) where
 
     module _ (z : r .number ≡ 0) where
       first-clean : firstHeaderFaultAt s i ≡ clean
-      unfolding firstHeaderFor
-      first-clean = go (firstHeaderFaultAt s i) e (numbered-first s i)
+      unfolding firstHeaderFor firstHeaderFault
+      first-clean =
+          let x = lineAt s i in
+          go (firstHeaderFaultAt s i) e (number-then (lineFaultAt true s i) (firstHeaderFault x) (line-at-numbered true s i) (first-header-numbered x))
         where
           go : (g : Fault) → r ≡ firstHeaderFor g s i → Numbered g → g ≡ clean
           go clean p m = refl
-          go (breaks n c) p m = absurd (m (sym (ap (λ (x : FirstHeader). x .number) p) ∙ z))
+          go (breaks n c) p m = absurd (numbered-nonzero n c m (sym (ap (λ (x : FirstHeader). x .number) p) ∙ z))
 
       apart : (headerNameRule (lineAt s i) ≡ clean) × (unless (ltb 0 (headersSaid (lineAt s i))) 8 1 ≡ clean) × (lineFaultAt true s i ≡ clean)
       unfolding firstHeaderFault firstHeaderRules firstOf
