@@ -20,7 +20,7 @@ use Rattle.format.specs.declared.NameFault.the-variants.{Clean, Bad, Repeated}
 use Rattle.format.specs.Faults.{Fault, clean, breaks, _then_, unless, member, hasAll, placeIn, firstOf}
 use Rattle.format.specs.Headers.{stationNames}
 use Rattle.format.specs.Columns.{Sort, ctd, isFlag, parameterOf, hasParameter, requiredNames, namesOf, kindOfName, kindsOf, nameRules, flagRules}
-use Rattle.format.specs.Inner.Faults.{nameFault, flagFault, namesLineFault, asFault}
+use Rattle.format.specs.Inner.Faults.{nameFault, flagFault, namesLineFault}
 use Rattle.columns.specs.declared.Cells.{Cells}
 use Rattle.columns.specs.declared.Columns.{Columns}
 use Rattle.format.specs.Inner.Sorts.{sortFor}
@@ -28,7 +28,8 @@ use Rattle.format.specs.Inner.Names.{faultIn, textIn, namesAt}
 use Rattle.columns.specs.Inner.Columns.{startOf, Placed, CellsFound, keepsParameter, filled, columnsRefused, columnsBy, columnsFor, ColumnsRead}
 use Rattle.format.proofs.NameLaws.{names-length, name-given, Within, fault-within, place-test}
 use Rattle.columns.proofs.NamesLineLaws.{start-first, start-later, start-next}
-use Rattle.format.proofs.NumberLaws.{Numbered, number-range, numbered-nonzero, flag-numbered, names-numbered}
+use Rattle.format.proofs.FaultLaws.{breaks-clean, fault-number}
+use Rattle.format.proofs.NumberLaws.{Numbered, numbered-nonzero, flag-numbered, names-numbered}
 use Rattle.format.proofs.RuleLaws.{names-rules}
 
 -- ---- a flag column's parameter, and the kind of a name
@@ -249,13 +250,6 @@ module _ (k : Sort) (x : List ℕ) where
       names-lacking g v d = names-refused v 13 1 1 d refl (rules-required e b (flags-clean z) h ∙ rw g)
 
 -- ---- what a caller has
-broken : (n c : ℕ) → breaks n c ≡ clean → ⊥
-broken n c e = let z : _≡_ {A = ℕ} 0 1 = cc in omega arith
-
-fault-number : (m c : ℕ) → 0 < m → asFault m c ≡ breaks m c
-fault-number zero c h = absurd (not-suc-le-zero h)
-fault-number (suc m) c h = refl
-
 names-few : (c : ℕ) (earlier ts : List (List ℕ)) → length earlier ≤ 256 → nameFault c earlier ts ≡ clean → length earlier + length ts ≤ 256
 unfolding nameFault nameRules firstOf
 names-few c earlier [] l e = omega arith
@@ -267,9 +261,9 @@ names-few c earlier (t ∷ ts) l e =
         → ((unless a 11 c) then (unless p 10 c) then (unless (not q) 9 c) then nameFault (c + length t + 1) (earlier ++ trim t ∷ []) ts) ≡ clean
         → (length (earlier ++ trim t ∷ []) ≤ 256 → nameFault (c + length t + 1) (earlier ++ trim t ∷ []) ts ≡ clean → length (earlier ++ trim t ∷ []) + length ts ≤ 256)
         → length earlier + suc (length ts) ≤ 256
-    go false p q d e f = absurd (broken 11 c e)
-    go true false q d e f = absurd (broken 10 c e)
-    go true true true d e f = absurd (broken 9 c e)
+    go false p q d e f = absurd (breaks-clean 11 c e)
+    go true false q d e f = absurd (breaks-clean 10 c e)
+    go true true true d e f = absurd (breaks-clean 9 c e)
     go true true false d e f =
         let n : length (earlier ++ trim t ∷ []) ≡ length earlier + 1 = length-append earlier (trim t ∷ []) in
         let g = f (omega (arith, n, ltb-true (length earlier) 256 d)) e in
@@ -295,7 +289,7 @@ columns-read k x r e = rw e (go (namesLineFault k x) refl (names-numbered k x))
           ap (λ (n : ℕ). take n (filled (kindsOf (namesOf x)))) l ∙ take-append-seam (kindsOf (namesOf x)) (replicate (256 - length (kindsOf (namesOf x))) 0);
     }
     go (breaks n c) d m = record {
-      fault = fault-number n c (number-range n c m .0) ∙ sym d;
+      fault = fault-number n c (numbered-nonzero n c m) ∙ sym d;
       few = λ z. absurd (numbered-nonzero n c m z);
       many = λ z. absurd (numbered-nonzero n c m z);
       kinds = λ z. absurd (numbered-nonzero n c m z);

@@ -13,6 +13,10 @@ pub fault-clean : (n c : ℕ) (f : Fault) → asFault n c ≡ f → n ≡ 0 → 
 fault-clean zero c f e z = sym e
 fault-clean (suc n) c f e z = absurd (omega arith)
 
+pub fault-number : (n c : ℕ) → (n ≡ 0 → ⊥) → asFault n c ≡ breaks n c
+fault-number zero c z = absurd (z refl)
+fault-number (suc n) c z = refl
+
 pub fault-broken : (n c : ℕ) (f : Fault) → asFault n c ≡ f → (n ≡ 0 → ⊥) → f ≡ breaks n c
 fault-broken zero c f e z = absurd (z refl)
 fault-broken (suc n) c f e z = sym e

@@ -1,5 +1,5 @@
 -- The cells of a data line, judged from the left: against the rules of a row, its missing readings and its key.
-use Prim.Native.Nat.{ℕ, zero, suc, _+_, _-_, _≤_, _<_}
+use Prim.Native.Nat.{ℕ, suc, _+_, _-_, _≤_, _<_}
 use mathlib.Core.Path.{_≡_, refl, sym, ap, subst, _∙_}
 use mathlib.Core.List.{List, [], _∷_}
 use mathlib.Core.Bool.{Bool, true, false, cond, not, _&&_, _||_, true≢false}
@@ -24,9 +24,10 @@ use Rattle.format.specs.Faults.{clean, breaks, firstOf}
 use Rattle.format.specs.Profiles.{missingInRow, cellOfKind, keyOf}
 use Rattle.rows.specs.declared.Row.{Row}
 use Rattle.format.specs.Rows.{cellRules, rowRules}
-use Rattle.format.specs.Inner.Faults.{cellFault, rowFault, asFault}
+use Rattle.format.specs.Inner.Faults.{cellFault, rowFault}
 use Rattle.format.specs.Inner.Rows.{spanText, keyAt, lineCells}
 use Rattle.rows.specs.Inner.RowReads.{rowRefused, refusedAt, rowBy, rowFor, RowRead}
+use Rattle.format.proofs.FaultLaws.{fault-number}
 use Rattle.format.proofs.GridWalkLaws.{cell-slice}
 use Rattle.format.proofs.VerdictLaws.{fault-good, fault-bad, number-good, number-bad}
 
@@ -324,10 +325,6 @@ missing-few (k ∷ ks) [] = omega arith
 missing-few (k ∷ ks) (t ∷ ts) = omega (arith, missing-one k (judge (kindOf k) t), missing-few ks ts)
 
 -- ---- the rules of a row
-pub fault-number : (n c : ℕ) → (n ≡ 0 → ⊥) → asFault n c ≡ breaks n c
-fault-number zero c h = absurd (h refl)
-fault-number (suc n) c h = refl
-
 module _ (ks : List ℕ) (ts : List (List ℕ)) where
   rules-count : (length ts ≡ length ks → ⊥) → rowFault ks ts ≡ breaks 15 1
   unfolding rowFault cellFault rowRules firstOf

@@ -23,7 +23,7 @@ use Rattle.format.specs.Inner.Lines.{linesFrom, lineOf}
 use Rattle.format.specs.Inner.Rows.{keyAt, lineCells, rowsFrom}
 use Rattle.rows.specs.Inner.RowReads.{RowRead}
 use Rattle.rules.specs.Inner.Data.{dataRefused, border, withRow, DataHeld, RowAdded, DataEnded, LineRead, DataRead}
-use Rattle.rows.proofs.RowLaws.{fault-number}
+use Rattle.format.proofs.FaultLaws.{fault-number}
 use Rattle.format.proofs.RuleLaws.{end-step, row-step}
 use Rattle.format.proofs.RunLaws.{run-stopped, run-line, lines-end, lines-more, line-clean, line-broken, piece-take}
 

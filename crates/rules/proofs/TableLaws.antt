@@ -1,5 +1,5 @@
 -- The run from the names line to the end of the file: one law for each end of the code's walk.
-use Prim.Native.Nat.{ℕ, zero, suc, _+_, _-_, _≤_, _<_}
+use Prim.Native.Nat.{ℕ, _+_, _-_, _≤_, _<_}
 use mathlib.Core.Path.{_≡_, refl, sym, ap, subst, _∙_}
 use mathlib.Core.List.{List, [], _∷_, map}
 use mathlib.Core.Bool.{Bool, true, false, true≢false}
@@ -27,6 +27,7 @@ use Rattle.rules.specs.Inner.Free.{ended, FreeRead}
 use Rattle.columns.specs.Inner.Columns.{ColumnsRead}
 use Rattle.rules.specs.Inner.Table.{Told, RowsRead, UnitsRead, tableOf, NamesRead, LineAt, FileRead, TableRead}
 use Rattle.format.specs.Records.{headersLine}
+use Rattle.format.proofs.FaultLaws.{fault-number}
 use Rattle.format.proofs.RuleLaws.{names-step, bottle-step, units-step, last-cut}
 use Rattle.format.proofs.RunLaws.{run-stopped, lines-end, lines-cut, run-line, line-broken, line-rules, run-on}
 
@@ -62,10 +63,6 @@ module _ (k : Sort) (hs : List Header) (ns : List (List ℕ)) (s : List ℕ) (i 
           run-on true s i r e z l (units k hs ns) _ (units-step l k hs ns (lineAt s i) ∙ rw (line-rules true s i r e z, g))
 
 -- ---- the names line
-fault-broken : (n c : ℕ) → (n ≡ 0 → ⊥) → asFault n c ≡ breaks n c
-fault-broken zero c z = absurd (z refl)
-fault-broken (suc n) c z = refl
-
 -- there is a kind for each column
 pub kinds-room : {k : Sort} {x : List ℕ} {c : Columns} → ColumnsRead k x c → c .number ≡ 0 → c .count ≤ length (c .kinds)
 kinds-room {k} {x} {c} a z = omega (arith, length-take (c .count) (c .kinds), ap length (a .kinds z), length-map (namesOf x) kindOfName, a .many z)
@@ -82,7 +79,7 @@ module _ (k : Sort) (hs : List Header) (s : List ℕ) (i l : ℕ) where
     module _ (z : r .number ≡ 0) (c : Columns) (x : ColumnsRead k (lineAt s i) c) where
       pub names-refused : (c .number ≡ 0 → ⊥) → run l (names k hs) (linesFrom s i) ≡ refused (c .number) l (c .column)
       names-refused f =
-          let g : namesLineFault k (lineAt s i) ≡ breaks (c .number) (c .column) = sym (x .fault) ∙ fault-broken (c .number) (c .column) f in
+          let g : namesLineFault k (lineAt s i) ≡ breaks (c .number) (c .column) = sym (x .fault) ∙ fault-number (c .number) (c .column) f in
           run-on true s i r e z l (names k hs) (stopped (c .number) l (c .column)) (names-step l k hs (lineAt s i) ∙ rw (line-rules true s i r e z, g)) ∙ (run-stopped (l + 1) (c .number) l (c .column) (linesFrom s (r .end + 1)))
 
       pub names-on : c .number ≡ 0 → run l (names k hs) (linesFrom s i) ≡ run (l + 1) (units k hs (namesOf (lineAt s i))) (linesFrom s (r .end + 1))
