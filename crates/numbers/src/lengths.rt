@@ -4,7 +4,7 @@ ghost use Prim.Native.Nat.{ℕ, _≤_};
 ghost use lib.ListN.{length};
 ghost use Rattle.numbers.specs.Texts.{wholeText, signText, fractionText};
 ghost use Rattle.numbers.specs.Patches.{hasRoom};
-use text::Span;
+use bytes::Span;
 
 // How many digits a whole number has with no needless zero: at least one.
 pub fn digit_count(n: u64) -> usize

@@ -3,9 +3,9 @@
 ghost use mathlib.Core.Path.{_≡_};
 ghost use Rattle.numbers.specs.Texts.{size, textLength};
 ghost use Rattle.numbers.specs.Patches.{numberSet, digitSet};
-use text::Span;
-use text::limits::MOST_DECIMALS;
-use text::limits::ONE;
+use bytes::Span;
+use bytes::limits::MOST_DECIMALS;
+use bytes::limits::ONE;
 
 mod lengths;
 mod puts;

@@ -7,8 +7,8 @@ ghost use Rattle.numbers.specs.Texts.{lastDigits, wholeText, fractionTex
 ghost use Rattle.numbers.specs.Patches.{patch};
 ghost use Rattle.numbers.specs.Inner.Puts.{Room, PutBefore};
 use crate::lengths::digit_count;
-use text::last_place;
-use text::limits::ONE;
+use bytes::limits::ONE;
+use verdicts::last_place;
 
 pub fn put_byte(file: &mut [u8], end: usize, b: u8) -> usize
     requires { ⌜ Room (now file) end (b ∷ []) ⌝ }

@@ -1,3 +1,1 @@
-pub mod PageLaws
-pub mod NumberLaws
 pub mod ReportLaws

@@ -8,7 +8,7 @@ use borrow.Author.Tests.{eq-eqb, ne-eqb, lt-ltb, le-ltb}
 use Rattle.format.specs.declared.Checked.{Checked}
 use Rattle.format.specs.Answers.{checkedOf}
 use Rattle.format.specs.Records.{profileOf}
-use Rattle.report_text.specs.Pages.{Page, lay}
+use Rattle.pages.specs.Pages.{Page, lay}
 use Rattle.report_text.specs.Report.{tooLong, refusedLine, acceptedLine, profileLine, profileLines, reportBy, reportOf}
 
 -- the same text laid out

@@ -1,12 +1,12 @@
 // The lines of the report.
 ghost use mathlib.Core.Path.{_≡_};
 ghost use Rattle.format.specs.Records.{profileOf};
-ghost use Rattle.report_text.specs.Pages.{page, lay};
+ghost use Rattle.pages.specs.Pages.{page, lay};
 ghost use Rattle.report_text.specs.Report.{field, number as numberIn, kindField, refusedLine, acceptedLine, stationText, profileLine, profileLines};
-use crate::put;
-use crate::put_number;
 use exchange::Checked;
 use exchange::FileKind;
+use pages::put;
+use pages::put_number;
 
 fn number_field(room: &mut [u8], from: usize, n: u64) -> usize
     ensures { λ r. ⌜ page (now (room .exit)) r ≡ lay (page (now (room .entry)) from) (numberIn n) ⌝ }

@@ -1,5 +1,5 @@
 // File K of document 01, edited in place.
-use report_text::put;
+use pages::put;
 
 // File K has so many bytes.
 pub const BYTES: usize = 339;

@@ -8,8 +8,8 @@ use correction::Answer;
 use correction::Order;
 use exchange::CastTime;
 use exchange::FileKind;
-use report_text::put;
-use report_text::put_number;
+use pages::put;
+use pages::put_number;
 use text::Reading;
 
 // A field is a space, then a number.

@@ -61,7 +61,7 @@ fn put_line(
     at: usize,
 ) -> usize {
     if (file.len() as u64) < length {
-        return report_text::put(out, at, b"too long\n");
+        return pages::put(out, at, b"too long\n");
     }
     let n = length as usize;
     answer(head, &mut file[..n], page, table, out, at)

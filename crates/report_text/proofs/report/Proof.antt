@@ -1,5 +1,5 @@
 use borrow.Author.Needs.{needs}
-use Rattle.report_text.proofs.PageLaws.{put-after}
+use Rattle.pages.proofs.PageLaws.{put-after}
 use Rattle.report_text.proofs.ReportLaws.{lay-along, report-long, report-refused, report-accepted}
 use Rattle.report_text.proofs.report.Statement.{statement}
 use Rattle.report_text.proofs.report.Tie as tie

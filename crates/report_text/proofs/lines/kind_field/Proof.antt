@@ -1,5 +1,5 @@
 use borrow.Author.Needs.{needs}
-use Rattle.report_text.specs.Pages.{lay}
+use Rattle.pages.specs.Pages.{lay}
 use Rattle.report_text.proofs.lines.kind_field.Statement.{statement}
 use Rattle.report_text.proofs.lines.kind_field.Tie as tie
 

@@ -1,6 +1,6 @@
 use borrow.Author.Needs.{needs}
 use Rattle.report_text.specs.Report.{profileLine}
-use Rattle.report_text.proofs.PageLaws.{put-after}
+use Rattle.pages.proofs.PageLaws.{put-after}
 use Rattle.report_text.proofs.lines.put_profile.Statement.{statement}
 use Rattle.report_text.proofs.lines.put_profile.Tie as tie
 

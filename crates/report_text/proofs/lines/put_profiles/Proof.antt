@@ -3,9 +3,9 @@ use mathlib.Core.Path.{_≡_, refl, ap, _∙_}
 use native.Mathlib.Omega.{arith}
 use lib.ListN.{length}
 use borrow.Author.Needs.{needs}
-use Rattle.report_text.specs.Pages.{page, lay}
+use Rattle.pages.specs.Pages.{page, lay}
 use Rattle.report_text.specs.Report.{profileLines}
-use Rattle.report_text.proofs.PageLaws.{text-room, put-after}
+use Rattle.pages.proofs.PageLaws.{text-room, put-after}
 use Rattle.report_text.proofs.ReportLaws.{lay-along, profiles-more}
 use Rattle.report_text.proofs.lines.put_profiles.Statement.{statement}
 use Rattle.report_text.proofs.lines.put_profiles.Tie as tie

@@ -1,10 +1,10 @@
 use borrow.Author.Needs.{needs}
 use native.Mathlib.Omega.{arith}
 use mathlib.Core.Path.{_∙_, ap}
-use Rattle.report_text.specs.Pages.{lay}
-use Rattle.report_text.proofs.NumberLaws.{fewest-whole}
-use Rattle.report_text.proofs.put_number.Statement.{statement}
-use Rattle.report_text.proofs.put_number.Tie as tie
+use Rattle.pages.specs.Pages.{lay}
+use Rattle.pages.proofs.NumberLaws.{fewest-whole}
+use Rattle.pages.proofs.put_number.Statement.{statement}
+use Rattle.pages.proofs.put_number.Tie as tie
 
 decimal-requires : tie.Need-decimal-requires
 decimal-requires c κs = search needs

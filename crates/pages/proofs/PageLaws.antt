@@ -10,7 +10,7 @@ use lib.ListN.{length, getD, set, drop, length-set, length-append}
 use lib.Seq.{drop-cons, drop-length, set-at, append-snoc}
 use lib.Dec.{ltb}
 use borrow.Author.Tests.{lt-ltb, le-ltb}
-use Rattle.report_text.specs.Pages.{Page, page, layByte, lay}
+use Rattle.pages.specs.Pages.{Page, page, layByte, lay}
 
 -- one byte
 module _ (s : List ℕ) (at x : ℕ) where

@@ -3,10 +3,10 @@ use mathlib.Core.Path.{_≡_, refl, sym, _∙_}
 use native.Mathlib.Omega.{arith}
 use lib.ListN.{length, drop}
 use borrow.Author.Needs.{needs}
-use Rattle.report_text.specs.Pages.{page, lay}
-use Rattle.report_text.proofs.PageLaws.{byte-room, text-end, text-step}
-use Rattle.report_text.proofs.put.Statement.{statement}
-use Rattle.report_text.proofs.put.Tie as tie
+use Rattle.pages.specs.Pages.{page, lay}
+use Rattle.pages.proofs.PageLaws.{byte-room, text-end, text-step}
+use Rattle.pages.proofs.put.Statement.{statement}
+use Rattle.pages.proofs.put.Tie as tie
 
 abbrev Inv-loop : tie.InvT-loop
 Inv-loop room₀ at t end₀ i₀ room end i = (i ≤ length t) × (length room ≡ length room₀) × (lay (page room₀ at) t ≡ lay (page room end) (drop i t))

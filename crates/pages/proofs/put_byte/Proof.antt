@@ -1,7 +1,7 @@
 use borrow.Author.Needs.{needs}
-use Rattle.report_text.proofs.PageLaws.{byte-put, byte-left}
-use Rattle.report_text.proofs.put_byte.Statement.{statement}
-use Rattle.report_text.proofs.put_byte.Tie as tie
+use Rattle.pages.proofs.PageLaws.{byte-put, byte-left}
+use Rattle.pages.proofs.put_byte.Statement.{statement}
+use Rattle.pages.proofs.put_byte.Tie as tie
 
 -- src/lib.rt:13:9
 slice-write-room : tie.Need-slice-write-room
