@@ -4,7 +4,7 @@ ghost use Rattle.bytes.specs.Spaces.{IsPart};
 ghost use Rattle.format.specs.Answers.{cellOf, refusalBy, askedOf, placeFor, readingFor, flaggedOf};
 ghost use Rattle.format.specs.Located.{locatedOf};
 use columns::flag_column;
-use lines::grid::no_place;
+use grid::no_place;
 use text::Reading;
 use text::Span;
 use text::kinds;

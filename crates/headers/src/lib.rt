@@ -1,4 +1,4 @@
-// Line 1, and the header lines of a CTD file, each by the rules of its line.
+// The header lines of a CTD file, each by the rules of its line.
 ghost use mathlib.Core.Path.{_≡_};
 ghost use Prim.Native.Nat.{_+_};
 ghost use lib.ListN.{length};
@@ -11,8 +11,6 @@ use lines::line_at;
 use names::place_of;
 use text::kinds;
 use text::refusals;
-
-pub mod first;
 
 // The most header lines.
 pub const MOST_HEADERS: usize = 64;

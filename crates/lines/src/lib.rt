@@ -9,12 +9,10 @@ ghost use Rattle.bytes.specs.Inner.Lines.{isPlain};
 ghost use Rattle.lines.specs.Inner.Passes.{Plain};
 ghost use Rattle.format.specs.Inner.Lines.{lineFor, lineOf};
 ghost use Rattle.format.specs.Inner.Faults.{byteFault};
-use crate::grid::line_end;
 use format::Line;
+use grid::line_end;
 use text::Found;
 use text::refusals;
-
-pub mod grid;
 
 // The most bytes of a line, and the column after them.
 pub const MOST_BYTES: usize = 8192;

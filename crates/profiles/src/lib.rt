@@ -5,7 +5,7 @@ ghost use Rattle.format.specs.Records.{profileOf, stationedOf, stationPlace, st
 use format::CastTime;
 use format::CellPlace;
 use format::ProfileRecord;
-use lines::grid::no_place;
+use grid::no_place;
 use text::kinds;
 use text::refusals;
 

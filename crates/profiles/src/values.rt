@@ -4,9 +4,9 @@ ghost use mathlib.Core.Bool.{false};
 ghost use Rattle.profiles.specs.Inner.Values.{ValueRead, NumberRead, TimeRead, HeadersStand, HeaderFound, ColumnsStand, valueIn};
 use columns::column_in;
 use format::CastTime;
+use grid::cell_span;
+use grid::line_end;
 use headers::equals_from;
-use lines::grid::cell_span;
-use lines::grid::line_end;
 use text::kinds;
 
 // Where a value stands, with its spaces: a cell parted by the separator, in a line whose line feed stands at `feed`. Not found: there is none of that name.

@@ -6,7 +6,7 @@ ghost use Rattle.verdicts.specs.Rows.{noKeys};
 ghost use Rattle.format.specs.Profiles.{sameKey};
 ghost use Rattle.format.specs.Inner.Rows.{spanText, keyAt};
 ghost use Rattle.rows.specs.Inner.RowReads.{rowRefused, refusedAt, rowFor};
-use lines::grid::cell_count;
+use grid::cell_count;
 use text::Keys;
 use text::Span;
 use text::refusals;

@@ -8,9 +8,9 @@ use lib.ListN.{length}
 use lib.Dec.{eqb}
 use borrow.Author.Tests.{eqb-true, eqb-false}
 use Rattle.bytes.specs.Cells.{firstPiece, laterPieces, lineAt}
-use Rattle.headers.specs.declared.first.First.{First}
-use Rattle.headers.specs.Inner.First.{firstFault, kindSaid, firstFor}
-use Rattle.headers.proofs.FirstLaws.{first-none, first-some, first-breaks, first-clean, first-full, first-next}
+use Rattle.line_one.specs.declared.First.{First}
+use Rattle.line_one.specs.Inner.First.{firstFault, kindSaid, firstFor}
+use Rattle.line_one.proofs.FirstLaws.{first-none, first-some, first-breaks, first-clean, first-full, first-next}
 use Rattle.format.specs.Faults.{clean, breaks, firstOf}
 use Rattle.format.specs.Columns.{Sort, bottle, ctd}
 use Rattle.format.specs.Places.{first, comments, isBottle, isCtd, firstLineRules, lastPieceRules, endRules, refused, run, outcomeOf}

@@ -5,7 +5,7 @@ ghost use Rattle.format.specs.Opened.{openedOf};
 use format::Checked;
 use format::FileKind;
 use format::Opened;
-use headers::first::BOTTLE;
+use line_one::BOTTLE;
 
 mod data;
 mod free;

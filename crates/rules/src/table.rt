@@ -9,11 +9,11 @@ use crate::free::free_lines;
 use crate::heads::read_headers;
 use columns::Columns;
 use columns::read_columns;
-use headers::first::BOTTLE;
-use headers::first::CTD;
-use headers::first::NEITHER;
-use headers::first::first_line;
-use lines::grid::cell_count;
+use grid::cell_count;
+use line_one::BOTTLE;
+use line_one::CTD;
+use line_one::NEITHER;
+use line_one::first_line;
 use lines::line_at;
 use text::refusals;
 
