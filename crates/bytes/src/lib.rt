@@ -1,6 +1,5 @@
 // The bytes of lines and names: UTF-8, returns and controls, the spaces at both ends, texts compared; and the refusals, kinds and limits, each number under its name.
 ghost use mathlib.Core.Path.{_≡_};
-ghost use lib.ListN.{getD};
 ghost use Rattle.bytes.specs.Spaces.{trimSpan, IsPart};
 ghost use Rattle.bytes.specs.Lines.{illFormed, returnAt, controlAt};
 ghost use Rattle.bytes.specs.Bytes.{equal};
@@ -33,9 +32,9 @@ pub fn ill_formed(line: &[u8]) -> Found
     while i < line.len() {
         let n = lines::character_of(
             line[i],
-            byte_at(line, i + 1),
-            byte_at(line, i + 2),
-            byte_at(line, i + 3),
+            lines::byte_at(line, i + 1),
+            lines::byte_at(line, i + 2),
+            lines::byte_at(line, i + 3),
         );
         if n == 0 {
             return Found::At(i);
@@ -71,13 +70,6 @@ pub fn first_control(line: &[u8]) -> Found
         i += 1;
     }
     Found::Nowhere
-}
-
-// The byte at i, and 0 past the end: no byte that goes on a character, and what pads a name.
-pub fn byte_at(s: &[u8], i: usize) -> u8
-    ensures { λ r. ⌜ r ≡ getD (now (s .entry)) i 0 ⌝ }
-{
-    if i < s.len() { s[i] } else { 0 }
 }
 
 // The bytes from a to e without the spaces at both ends, as a part of the lent bytes themselves.

@@ -2,6 +2,7 @@
 ghost use mathlib.Core.Path.{_≡_};
 ghost use mathlib.Core.Bool.{_||_, _&&_};
 ghost use mathlib.Core.List.{[], _∷_};
+ghost use lib.ListN.{getD};
 ghost use Rattle.bytes.specs.Lines.{character, within, to, tail};
 
 fn in_range(low: u8, high: u8, x: u8) -> bool
@@ -47,4 +48,11 @@ pub fn character_of(a: u8, b: u8, c: u8, d: u8) -> usize
     } else {
         0
     }
+}
+
+// The byte at i, and 0 past the end: no byte that goes on a character.
+pub fn byte_at(s: &[u8], i: usize) -> u8
+    ensures { λ r. ⌜ r ≡ getD (now (s .entry)) i 0 ⌝ }
+{
+    if i < s.len() { s[i] } else { 0 }
 }

@@ -1,4 +1,4 @@
-// The refusal numbers of document 01, each under a name for the words of its table; 0 is no refusal.
+// The refusal numbers of document 01, each under a name for the words of its table, and 29 of document 02; 0 is no refusal.
 pub const LINE_TOO_LONG: u64 = 1;
 
 pub const NO_LINE_FEED: u64 = 2;
@@ -50,3 +50,5 @@ pub const FLAG_NOT_IN_SET: u64 = 24;
 pub const TEXT_TOO_LONG: u64 = 25;
 
 pub const MALFORMED_LIST_LINE: u64 = 26;
+
+pub const TABLE_TOO_SHORT: u64 = 29;

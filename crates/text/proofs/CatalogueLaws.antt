@@ -1,19 +1,22 @@
--- The catalogue: its entries rise, so no two are the same and a name has one place there; and each listed name is found with its kind.
-use Prim.Native.Nat.{ℕ, zero, suc, _+_, _-_, _*_, _/_, _≤_, _<_}
-use mathlib.Core.Path.{_≡_, refl, sym, ap, _∙_}
-use mathlib.Core.List.{List, map}
-use mathlib.Core.Bool.{Bool, true, false, cond, _&&_, false≢true, and-eq-true-iff}
+-- The catalogue: its entries rise, so no two are the same; each listed name is found with its kind, and no other name is found.
+use Prim.Native.Nat.{ℕ, zero, suc, _+_, _-_, _*_, _/_, _<_}
+use mathlib.Core.Path.{_≡_, refl, sym, ap, subst, _∙_}
+use mathlib.Core.Logic.{inl, inr}
+use mathlib.Core.List.{List, [], _∷_, map}
+use mathlib.Core.Bool.{Bool, true, false, cond, _&&_, _||_, false≢true, and-eq-true-iff}
 use native.Mathlib.Nat.{not-suc-le-zero}
 use native.Mathlib.Omega.{arith}
-use lib.ListN.{length, drop}
+use lib.ListN.{length, getD, drop}
 use lib.Seq.{drop-drop}
 use lib.Dec.{ltb}
 use borrow.Author.Tests.{ltb-true, ltb-false}
 use Rattle.bytes.specs.declared.Found.{Found}
 use Rattle.bytes.specs.declared.Found.the-variants.{At, Nowhere}
 use Rattle.bytes.specs.Bytes.{equal}
-use Rattle.text.specs.Catalogue.{Listed, listed, padded, base256, insert, ordered, flat, names, kinds, entryAt, searchFrom, lookUp, kindIn}
+use Rattle.bytes.specs.Cells.{firstPiece}
+use Rattle.text.specs.Catalogue.{Listed, listed, base256, insert, ordered, flat, names, kinds, entryAt, entryName, searchFrom, lookUp, entryKind, kindIn, IsListed, KindsListed}
 use Rattle.bytes.proofs.EqualLaws.{equal-same}
+use Rattle.bytes.proofs.CellLaws.{both-true}
 
 -- an entry as a number
 abbrev valueAt : List ℕ → ℕ → ℕ
@@ -61,39 +64,62 @@ same-place j k h l e false false p q = omega (arith, ltb-false j k p, ltb-false 
 pub names-differ : (j k : ℕ) → j < length names / 16 → k < length names / 16 → entryAt names j ≡ entryAt names k → j ≡ k
 names-differ j k h l e = same-place j k h l (ap (base256 0) e) (ltb j k) (ltb k j) refl refl
 
--- a name stands at one entry at most
-pub names-once : (name : List ℕ) (j k : ℕ) → j < length names / 16 → k < length names / 16 → equal (entryAt names j) (padded name) ≡ true → equal (entryAt names k) (padded name) ≡ true → j ≡ k
-names-once name j k h l p q = names-differ j k h l (equal-same _ _ p ∙ sym (equal-same _ _ q))
-
-module _ (t name : List ℕ) (j : ℕ) (e : equal (entryAt t j) (padded name) ≡ true) (once : (i : ℕ) → i ≤ j → equal (entryAt t i) (padded name) ≡ true → i ≡ j) where
-  search-by : (n k : ℕ) (b : Bool) → equal (entryAt t k) (padded name) ≡ b → k ≤ j → (k < j → searchFrom t name n (suc k) ≡ At j) → cond b (At k) (searchFrom t name n (suc k)) ≡ At j
-  search-by n k true p h f = ap At (once k h p)
-  search-by n k false p h f = by (ltb k j) refl
-    where
-      by : (b : Bool) → ltb k j ≡ b → searchFrom t name n (suc k) ≡ At j
-      by true q = f (ltb-true k j q)
-      by false q = let r : k ≡ j = omega (arith, ltb-false k j q) in absurd (false≢true (sym p ∙ rw r e))
-
-  search-once : (n k : ℕ) → k ≤ j → j < k + n → searchFrom t name n k ≡ At j
-  unfolding searchFrom
-  search-once zero k h l = absurd (omega arith)
-  search-once (suc n) k h l = search-by n k _ refl h (λ i. search-once n (suc k) i (omega arith))
-
--- the look-up gives that entry
-pub names-at : (name : List ℕ) (j : ℕ) → j < length names / 16 → equal (entryAt names j) (padded name) ≡ true → lookUp names name ≡ At j
-unfolding lookUp
-names-at name j h e =
-    search-once names name j e (λ i l p. names-once name i j (omega arith) h p e) (length names / 16) 0 (omega arith) (omega arith)
-
 abbrev pub isAt : Found → Bool
 isAt (At k) = true
 isAt Nowhere = false
 
--- each listed name stands in the table, and is found with its kind
+-- ---- each listed name stands in the table, and is found with its kind
 pub listed-stand : map (λ (x : Listed). isAt (lookUp names (x .name))) listed ≡ map (λ (x : Listed). true) listed
-unfolding lookUp searchFrom equal names flat ordered listed insert base256
+unfolding lookUp searchFrom firstPiece equal names flat ordered listed insert base256
 listed-stand = refl
 
 pub listed-found : map (λ (x : Listed). kindIn names kinds (x .name)) listed ≡ map (λ (x : Listed). x .kind) listed
-unfolding kindIn lookUp searchFrom equal names kinds flat ordered listed insert base256
+unfolding kindIn lookUp searchFrom firstPiece equal names kinds flat ordered listed insert base256
 listed-found = refl
+
+known-each : (xs : List Listed) → map (λ (x : Listed). kindIn names kinds (x .name)) xs ≡ map (λ (x : Listed). x .kind) xs → (n : List ℕ) (k : ℕ) → IsListed xs n k → kindIn names kinds n ≡ k
+known-each [] e n k h = absurd h
+known-each (x ∷ xs) e n k (inl h) = ap (kindIn names kinds) (sym (h .0)) ∙ ap (λ (l : List ℕ). getD l 0 0) e ∙ h .1
+known-each (x ∷ xs) e n k (inr h) = known-each xs (ap (λ (l : List ℕ). drop 1 l) e) n k h
+
+-- ---- each entry has a listed name, so that no other name is found
+unfoldable has : List Listed → List ℕ → Bool
+has [] n = false
+has (x ∷ xs) n = equal (x .name) n || has xs n
+
+unfoldable allFrom : ℕ → ℕ → Bool
+allFrom zero k = true
+allFrom (suc n) k = has listed (entryName names k) && allFrom n (suc k)
+
+-- the test, computed over the whole table
+entries-listed : allFrom (length names / 16) 0 ≡ true
+unfolding allFrom has firstPiece equal names flat ordered listed insert base256
+entries-listed = refl
+
+has-listed : (xs : List Listed) (n : List ℕ) → has xs n ≡ true → (k : ℕ) × IsListed xs n k
+unfolding has
+has-listed [] n e = absurd (false≢true e)
+has-listed (x ∷ xs) n e = go (equal (x .name) n) refl (has-listed xs n) e
+  where
+    go : (b : Bool) → equal (x .name) n ≡ b → (has xs n ≡ true → (k : ℕ) × IsListed xs n k) → (b || has xs n) ≡ true → (k : ℕ) × IsListed (x ∷ xs) n k
+    go true p f e = (x .kind, inl (equal-same (x .name) n p, refl))
+    go false p f e = let w = f e in (w .0, inr (w .1))
+
+none-found : (n : List ℕ) → ((kind : ℕ) → IsListed listed n kind → ⊥) → (m k : ℕ) → allFrom m k ≡ true → searchFrom names n m k ≡ Nowhere
+unfolding searchFrom allFrom
+none-found n other zero k e = refl
+none-found n other (suc m) k e =
+    let w = both-true (has listed (entryName names k)) (allFrom m (suc k)) e in
+    go (equal (entryName names k) n) refl (w .0) (none-found n other m (suc k) (w .1))
+  where
+    go : (b : Bool) → equal (entryName names k) n ≡ b → has listed (entryName names k) ≡ true → searchFrom names n m (suc k) ≡ Nowhere
+        → cond b (At k) (searchFrom names n m (suc k)) ≡ Nowhere
+    go true p h r = let w = has-listed listed n (subst (λ (x : List ℕ). has listed x ≡ true) (equal-same (entryName names k) n p) h) in absurd (other (w .0) (w .1))
+    go false p h r = r
+
+pub kinds-listed : KindsListed
+unfolding kindIn lookUp
+kinds-listed = record {
+  known = known-each listed listed-found;
+  other = λ n other. ap (entryKind kinds) (none-found n other (length names / 16) 0 entries-listed);
+}

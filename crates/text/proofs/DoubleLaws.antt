@@ -1,18 +1,23 @@
 -- The double of a number of millionths below 10^15: the number is held exactly, and its millionth is finite, so neither a NaN nor an infinity arises.
 use Prim.Native.Nat.{ℕ, zero, suc, _+_, _*_, _^_, _≤_, _<_}
-use mathlib.Core.Path.{_≡_, refl, sym}
+use mathlib.Core.Path.{_≡_, refl, sym, subst}
 use mathlib.Core.Bool.{Bool, true, false, cond}
 use native.Mathlib.Nat.{le-of-lt, lt-of-lt-of-le, mul-one, mul-le-mul-right}
 use native.Mathlib.Omega.{arith}
 use lib.Dec.{T, ltb, lit<, lit≤}
 use lib.Pow.{pow-mono, shl-lt}
 use lib.IntN.{ℤ, pos, negsuc, natAbs}
-use lib.Ieee.{Float, nan, inf, fin, Format, binary64, prec, emax, low, up, down, unlike, odd, units, round, lt, eq, le, div, ofInt, isNan}
+use lib.Ieee.{Float, nan, inf, fin, Format, binary64, prec, emax, low, up, down, unlike, odd, units, round, lt, eq, le, div, ofInt, ofBits, isNan}
 use lib.Ieee.Exact.{HasValue, round-exact}
 use lib.Ieee.Fits.{round-is, down-pos}
 use lib.Ieee.Order.{round-mono}
 use lib.Ieee.Scale.{finite}
 use Rattle.text.specs.Reading.{doubleOf}
+
+-- the double 0.0 of the code
+pub nought : ofBits binary64 0 ≡ ofInt binary64 (pos 0)
+unfolding ofBits ofInt
+nought = refl
 
 -- ---- rounding below a finite value gives a finite one
 odd-finite : (d : ℕ) (s : Bool) (q k l : ℕ) → T (finite (odd d s q k l))
@@ -70,7 +75,8 @@ quotient (fin t m e) s n h v =
 
 pub double-finite : (m : ℤ) → natAbs m < 10 ^ 15 → T (finite (doubleOf m))
 unfolding doubleOf
-double-finite m h = rw million (quotient (ofInt binary64 m) (isMinus m) (natAbs m) h (double-exact m h))
+double-finite m h =
+    subst (λ (d : Float). T (finite (div binary64 (ofInt binary64 m) d))) (sym million) (quotient (ofInt binary64 m) (isMinus m) (natAbs m) h (double-exact m h))
 
 finite-number : (x : Float) → T (finite x) → isNan x ≡ false
 unfolding isNan

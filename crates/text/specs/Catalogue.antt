@@ -1,6 +1,8 @@
 -- Document 01, "The catalogue": the names under their kinds. The table has them padded with zeros to 16 bytes, in rising byte order.
 use Prim.Native.Nat.{ℕ, zero, suc, _+_, _-_, _*_, _/_}
 use Prim.Native.String.{String}
+use mathlib.Core.Path.{_≡_}
+use mathlib.Core.Logic.{_⊎_}
 use mathlib.Core.List.{List, [], _∷_, _++_, map}
 use mathlib.Core.Bool.{cond}
 use lib.ListN.{length, getD, take, drop, replicate}
@@ -8,6 +10,7 @@ use lib.Dec.{ltb}
 use Rattle.bytes.specs.declared.Found.{Found}
 use Rattle.bytes.specs.declared.Found.the-variants.{At, Nowhere}
 use Rattle.bytes.specs.Bytes.{bytes, equal}
+use Rattle.bytes.specs.Cells.{firstPiece}
 use Rattle.verdicts.specs.Kinds.{Kind, measured, latitude, longitude, depth, expocode, stnnbr, castno, date, time, free, codeOf}
 
 -- a listed name and the number of its kind
@@ -67,14 +70,17 @@ names = flat (ordered listed)
 unfoldable pub kinds : List ℕ
 kinds = map (λ (x : Listed). x .kind) (ordered listed)
 
--- entry k of a table of names
+-- entry k of a table of names, and its name: the bytes before its first zero
 abbrev pub entryAt : List ℕ → ℕ → List ℕ
 entryAt t k = take 16 (drop (16 * k) t)
 
--- the first entry from k on, of n, that is the name
+abbrev pub entryName : List ℕ → ℕ → List ℕ
+entryName t k = firstPiece 0 (entryAt t k)
+
+-- the first entry from k on, of n, that has the name
 unfoldable pub searchFrom : List ℕ → List ℕ → ℕ → ℕ → Found
 searchFrom t name zero k = Nowhere
-searchFrom t name (suc n) k = cond (equal (entryAt t k) (padded name)) (At k) (searchFrom t name n (suc k))
+searchFrom t name (suc n) k = cond (equal (entryName t k) name) (At k) (searchFrom t name n (suc k))
 
 -- where a table has the name
 unfoldable pub lookUp : List ℕ → List ℕ → Found
@@ -88,3 +94,14 @@ entryKind ks Nowhere = codeOf free
 -- the kind of a name by a table: free text where it is not listed
 unfoldable pub kindIn : List ℕ → List ℕ → List ℕ → ℕ
 kindIn t ks name = entryKind ks (lookUp t name)
+
+-- ---- what that is for the catalogue's own tables; the term is in proofs/CatalogueLaws
+-- a list has the name under the kind
+abbrev pub IsListed : List Listed → List ℕ → ℕ → Type 0
+IsListed [] name kind = ⊥
+IsListed (x ∷ xs) name kind = ((x .name ≡ name) × (x .kind ≡ kind)) ⊎ IsListed xs name kind
+
+-- a listed name, byte for byte, has the kind that it is listed under; any other is free text
+pub record KindsListed : Type 0 where
+  pub known : (name : List ℕ) (kind : ℕ) → IsListed listed name kind → kindIn names kinds name ≡ kind
+  pub other : (name : List ℕ) → ((kind : ℕ) → IsListed listed name kind → ⊥) → kindIn names kinds name ≡ codeOf free

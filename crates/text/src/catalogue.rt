@@ -3,8 +3,7 @@ ghost use mathlib.Core.Path.{_≡_};
 ghost use Prim.Native.Nat.{_+_, _*_, _≤_};
 ghost use lib.ListN.{length};
 ghost use Rattle.bytes.specs.Bytes.{equal};
-ghost use Rattle.text.specs.Catalogue.{entryAt, padded};
-use bytes::byte_at;
+ghost use Rattle.text.specs.Catalogue.{entryName};
 use bytes::kinds;
 
 // So many bytes has an entry of the table.
@@ -112,21 +111,21 @@ pub const KINDS: [u8; 48] = [
     kinds::MEASURED, // TRITUM
 ];
 
-// Whether the name, padded with zeros, is entry k.
+// Whether entry k has the name: the bytes before its first zero, and no others.
 pub fn is_entry<'a>(listed: &'a [u8], k: usize, name: &'a [u8]) -> bool
     requires { ⌜ 16 * k + 16 ≤ length (now listed) ⌝ }
-    ensures { λ r. ⌜ r ≡ equal (entryAt (now (listed .entry)) k) (padded (now (name .entry))) ⌝ }
+    ensures { λ r. ⌜ r ≡ equal (entryName (now (listed .entry)) k) (now (name .entry)) ⌝ }
 {
     if ENTRY < name.len() {
         return false;
     }
     let a = ENTRY * k;
     let mut j = 0;
-    while j < ENTRY {
-        if listed[a + j] != byte_at(name, j) {
+    while j < name.len() {
+        if (listed[a + j] != name[j]) | (name[j] == 0) {
             return false;
         }
         j += 1;
     }
-    true
+    if j < ENTRY { listed[a + j] == 0 } else { true }
 }

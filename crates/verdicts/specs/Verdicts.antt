@@ -38,7 +38,8 @@ decimalsOf wrong = 0
 decimalsOf outOfRange = 0
 decimalsOf (good m v d) = d
 
--- the number of that sign and size, below 10^15; minus zero is 0
+-- the number of that sign and size; minus zero is 0. A size of 10^15 or more gives 0, and no text that is good writes one: its number is the one written
+-- (laws, Promises: NumbersWritten)
 unfoldable pub signed : Bool → ℕ → ℤ
 signed minus size = cond (ltb size (10 ^ 15)) (cond minus (negℤ (pos size)) (pos size)) (pos 0)
 

@@ -52,7 +52,7 @@ pub fn stops(s: &[u8], i: usize, e: usize, separator: u8) -> bool
     (s[e] == b'\n') & ((separator == b',') | (separator == b'\n') | (separator == b'\t'))
 }
 
-// The number of a size below 10^15 with its sign; minus zero is 0.
+// The number of a sign and a size; minus zero is 0. A size of 10^15 or more, which no good cell has, gives 0.
 pub fn signed_size(minus: bool, size: u64) -> i64
     ensures { λ r. ⌜ r ≡ signed minus size ⌝ }
 {
