@@ -8,12 +8,12 @@ use native.Mathlib.Nat.{not-suc-le-zero, le-of-suc-le-suc}
 use native.Mathlib.Omega.{arith}
 use lib.ListN.{length, getD, take, drop, set, replicate, length-map, length-append, drop-of-length-le, List·getD-map}
 use lib.Seq.{drop-cons, take-suc, take-all, take-append-seam, length-take-le}
-use lib.Dec.{ltb, leb, eqb}
+use lib.Dec.{ltb, eqb}
 use borrow.Author.Tests.{lt-ltb, le-ltb, ltb-true, eqb-true, eqb-false}
-use Rattle.bytes.specs.Bytes.{bytes, equal}
+use Rattle.bytes.specs.Bytes.{bytes}
 use Rattle.bytes.specs.Cells.{pieces, lineAt}
 use Rattle.bytes.specs.Spaces.{trimFront, trimEnd, trim}
-use Rattle.bytes.specs.Names.{isName, lastSeven, parameterLength, beginsCtd}
+use Rattle.bytes.specs.Names.{isName, parameterLength, beginsCtd}
 use Rattle.text.specs.Catalogue.{names, kinds, kindIn}
 use Rattle.format.specs.declared.NameFault.{NameFault}
 use Rattle.format.specs.declared.NameFault.the-variants.{Clean, Bad, Repeated}
@@ -30,17 +30,10 @@ use Rattle.format.proofs.NameLaws.{names-length, name-given, Within, fault-with
 use Rattle.columns.proofs.NamesLineLaws.{start-first, start-later, start-next}
 use Rattle.format.proofs.FaultLaws.{breaks-clean, fault-number}
 use Rattle.format.proofs.NumberLaws.{Numbered, numbered-nonzero, flag-numbered, names-numbered}
+use Rattle.format.proofs.NamesLineLaws.{parameter-length}
 use Rattle.format.proofs.RuleLaws.{names-rules}
 
 -- ---- a flag column's parameter, and the kind of a name
-pub parameter-length : (t : List ℕ) → parameterLength t ≤ length t
-unfolding parameterLength
-parameter-length t = go (leb 8 (length t) && equal (lastSeven t) (bytes "_FLAG_W"))
-  where
-    go : (b : Bool) → cond b (length t - 7) 0 ≤ length t
-    go true = omega arith
-    go false = omega arith
-
 module _ (n : List ℕ) (p : ℕ) (e : p ≡ parameterLength n) where
   pub parameter-taken : p ≡ length (take p n)
   parameter-taken = sym (length-take-le p n (omega (arith, e, parameter-length n)))

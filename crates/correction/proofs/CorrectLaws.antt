@@ -16,6 +16,7 @@ use Rattle.format.specs.Places.{Table, Outcome, accepted, refused, outcomeOf}
 use Rattle.format.specs.Profiles.{grid}
 use Rattle.format.specs.Answers.{isThere, found, missed, askedBy, askedOf, cellPlace}
 use Rattle.format.specs.Located.{nameAt, flagColumn, hasFlag, flagPlace, locatedBy, locatedOf}
+use Rattle.laws.proofs.FlagColumnLaws.{flag-of}
 use Rattle.laws.proofs.AskedLaws.{row-many}
 use Rattle.laws.proofs.FirstBrokenLaws.{checks-first}
 use Rattle.numbers.specs.Texts.{numberText, flagText, atRight}
@@ -37,7 +38,6 @@ use Rattle.orders.proofs.TestLaws.{first-here, first-later}
 use Rattle.correction.proofs.FirstNumberLaws.{byNumber, first-number}
 use Rattle.orders.proofs.PlanLaws.{span-inside, place-shape, text-place, lineOf, answer-view, decide}
 use Rattle.orders.proofs.FitLaws.{Asked, applied-asked, goods}
-use Rattle.orders.proofs.ColumnLaws.{flag-of}
 
 -- ---- the file's refusal or 21; or the row and column are there
 pub record Here (f : List ℕ) (o : Order) (x : Located) : Type 0 where

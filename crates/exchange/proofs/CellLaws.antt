@@ -27,13 +27,13 @@ use Rattle.format.specs.Grid.{spanIn}
 use Rattle.format.specs.Opened.{openedOf}
 use Rattle.format.specs.Inner.Grid.{lineStart, cellSpan}
 use Rattle.format.specs.Answers.{Asked, found, missed, askedBy, askedOf, kindAt, rowCells, cellText, cellPlace, cellBy, cellOf, refusalBy, placeBy, placeFor, readingBy, readingFor, flaggedBy, flaggedOf}
-use Rattle.columns.specs.Inner.NamesLine.{kindInLine}
+use Rattle.format.specs.NamesLine.{kindInLine}
 use Rattle.exchange.specs.Inner.Cells.{CellRead, AskedRead}
 use Rattle.format.proofs.GridLaws.{RowAt, SpanAt, span-at}
 use Rattle.format.proofs.InsideLaws.{outside, Inside, inside-by, asked-inside, asked-outside}
 use Rattle.format.proofs.OpenedLaws.{OpenedTable, opened-refused, opened-table, row-found}
 use Rattle.format.proofs.VerdictLaws.{reading-anywhere, size-anywhere}
-use Rattle.columns.proofs.AskedLaws.{kind-asked}
+use Rattle.format.proofs.NamesLineLaws.{kind-asked}
 
 module _ (s : List ℕ) (r c : ℕ) (o : Opened) (q : o ≡ openedOf s) where
   -- ---- the refusals

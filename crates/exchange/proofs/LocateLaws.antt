@@ -16,9 +16,10 @@ use Rattle.format.specs.Grid.{nowhere}
 use Rattle.format.specs.Inner.Grid.{cellSpan}
 use Rattle.format.specs.Inner.Names.{textIn}
 use Rattle.format.specs.Located.{flagColumn, locatedBy, locatedOf}
-use Rattle.columns.specs.Inner.NamesLine.{flagInLine}
+use Rattle.format.specs.NamesLine.{flagInLine}
 use Rattle.exchange.specs.Inner.Cells.{CellRead, AskedRead}
-use Rattle.columns.proofs.AskedLaws.{span-text, span-room, flag-asked}
+use Rattle.columns.proofs.AskedLaws.{span-text, span-room}
+use Rattle.format.proofs.NamesLineLaws.{flag-asked}
 
 -- ---- a column counted from 1, 0 being none
 module _ (s : List ℕ) (at k : ℕ) where

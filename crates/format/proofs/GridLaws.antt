@@ -99,10 +99,13 @@ unfolding lineStart
 start-in s i k h = rw (lt-ltb k (length (linesFrom s i)) h)
 
 -- ---- a data line of an accepted file
+pub getD-map-in : {A B : Type 0} (f : A → B) (l : List A) (i : ℕ) (d : B) (e : A) → i < length l → getD (map f l) i d ≡ f (getD l i e)
+getD-map-in f [] i d e h = absurd (not-suc-le-zero h)
+getD-map-in f (x ∷ l) zero d e h = refl
+getD-map-in f (x ∷ l) (suc i) d e h = getD-map-in f l i d e (le-of-suc-le-suc h)
+
 pub getD-mapped : (ls : List (List ℕ)) (k : ℕ) → k < length ls → getD (map (pieces 44) ls) k [] ≡ pieces 44 (getD ls k [])
-getD-mapped [] k h = absurd (not-suc-le-zero h)
-getD-mapped (l ∷ ls) zero h = refl
-getD-mapped (l ∷ ls) (suc k) h = getD-mapped ls k (le-of-suc-le-suc h)
+getD-mapped ls k h = getD-map-in (pieces 44) ls k [] [] h
 
 pub cells-many : (ks : List ℕ) (ts : List (List ℕ)) → rowFault ks ts ≡ clean → length ts ≡ length ks
 unfolding rowFault cellFault rowRules firstOf

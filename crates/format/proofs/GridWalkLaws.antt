@@ -13,10 +13,10 @@ use borrow.Author.Tests.{eqb-true, eqb-false, eq-eqb, ne-eqb, lt-ltb, le-ltb, lt
 use Rattle.bytes.specs.declared.Span.{Span}
 use Rattle.bytes.specs.Cells.{firstPiece, laterPieces, pieces, lineAt, cellAt, cellEnd}
 use Rattle.bytes.specs.Inner.Scans.{Stop}
-use Rattle.bytes.proofs.CellLaws.{cellEnd-parts, pieces-last, pieces-more, count-step}
+use Rattle.bytes.proofs.CellLaws.{cellEnd-parts, pieces-more, count-step}
 use Rattle.bytes.proofs.SpaceLaws.{slice-take}
 use Rattle.format.specs.Grid.{starts, spanIn}
-use Rattle.format.specs.Inner.Grid.{lineStart, cellSpan, feedsIn, skip, skipped}
+use Rattle.format.specs.Inner.Grid.{lineStart, cellSpan, countOf, skip, skipped}
 use Rattle.format.proofs.RunLaws.{piece-in, piece-take}
 use Rattle.format.specs.Places.{after}
 
@@ -100,45 +100,49 @@ module _ (s : List ℕ) (i : ℕ) where
         (omega arith, ap (λ (x : ℕ). skipped s i x) f ∙ skipped-other (m - 1) e ∙ ap (λ (x : ℕ). skipped s (i + 1) x) (sym f ∙ sym g))
 
 -- ---- a block at a time
-skip-block : (m k : ℕ) (xs : List ℕ) → m ≤ length xs → feedsIn (take m xs) < k → skip k xs ≡ m + skip (k - feedsIn (take m xs)) (drop m xs)
-unfolding skip feedsIn
+skip-block : (m k : ℕ) (xs : List ℕ) → m ≤ length xs → countOf 10 (take m xs) < k → skip k xs ≡ m + skip (k - countOf 10 (take m xs)) (drop m xs)
+unfolding skip countOf
 skip-block zero k xs h l = let e : k - 0 ≡ k = omega arith in rw e (sym (zero-add _))
 skip-block (suc m) zero xs h l = absurd (omega arith)
 skip-block (suc m) (suc k) [] h l = absurd (not-suc-le-zero h)
 skip-block (suc m) (suc k) (x ∷ xs) h l = go (eqb x 10) l (skip-block m k xs (le-of-suc-le-suc h)) (skip-block m (suc k) xs (le-of-suc-le-suc h))
   where
     f : ℕ
-    f = feedsIn (take m xs)
+    f = countOf 10 (take m xs)
 
     go : (b : Bool) → cond b 1 0 + f < suc k → (f < k → skip k xs ≡ m + skip (k - f) (drop m xs)) → (f < suc k → skip (suc k) xs ≡ m + skip (suc k - f) (drop m xs))
         → suc (cond b (skip k xs) (skip (suc k) xs)) ≡ suc m + skip (suc k - (cond b 1 0 + f)) (drop m xs)
     go true l p q = let e : suc k - (1 + f) ≡ k - f = omega arith in rw e (omega (arith, p (omega arith)))
     go false l p q = let e : suc k - (0 + f) ≡ suc k - f = omega arith in rw e (omega (arith, q (omega arith)))
 
-pub skipped-block : (s : List ℕ) (i k n : ℕ) → i + 32 ≤ length s → n ≡ feedsIn (take 32 (drop i s)) → n < k → skipped s i k ≡ skipped s (i + 32) (k - n)
+pub skipped-block : (s : List ℕ) (i k n : ℕ) → i + 32 ≤ length s → n ≡ countOf 10 (take 32 (drop i s)) → n < k → skipped s i k ≡ skipped s (i + 32) (k - n)
 skipped-block s i k n h e l =
     let b : 32 ≤ length (drop i s) = rw length-drop (omega arith) in
     ap (λ (x : ℕ). i + x) (skip-block 32 k (drop i s) b (subst (λ (x : ℕ). x < k) e l))
     ∙ rw (drop-drop 32 i s, ← e) (omega arith)
 
 -- counting a block: what is passed and the byte at its end
-pub feeds-none : (xs : List ℕ) → feedsIn (take 0 xs) ≡ 0
-unfolding feedsIn
-feeds-none xs = refl
+module _ (b : ℕ) where
+  pub count-none : (xs : List ℕ) → countOf b (take 0 xs) ≡ 0
+  unfolding countOf
+  count-none xs = refl
 
-feeds-more : (m : ℕ) (xs : List ℕ) → m < length xs → feedsIn (take (m + 1) xs) ≡ feedsIn (take m xs) + cond (eqb (getD xs m 0) 10) 1 0
-unfolding feedsIn
-feeds-more zero [] h = absurd (not-suc-le-zero h)
-feeds-more zero (x ∷ xs) h = omega arith
-feeds-more (suc m) [] h = absurd (not-suc-le-zero h)
-feeds-more (suc m) (x ∷ xs) h = let e : suc m + 1 ≡ suc (m + 1) = omega arith in rw e (omega (arith, feeds-more m xs (le-of-suc-le-suc h)))
+  count-more : (m : ℕ) (xs : List ℕ) → m < length xs → countOf b (take (m + 1) xs) ≡ countOf b (take m xs) + cond (eqb (getD xs m 0) b) 1 0
+  unfolding countOf
+  count-more zero [] h = absurd (not-suc-le-zero h)
+  count-more zero (x ∷ xs) h = omega arith
+  count-more (suc m) [] h = absurd (not-suc-le-zero h)
+  count-more (suc m) (x ∷ xs) h = let e : suc m + 1 ≡ suc (m + 1) = omega arith in rw e (omega (arith, count-more m xs (le-of-suc-le-suc h)))
 
-pub feeds-step : (s : List ℕ) (i k : ℕ) → i ≤ k → k < length s → feedsIn (take (k + 1 - i) (drop i s)) ≡ feedsIn (take (k - i) (drop i s)) + cond (eqb (getD s k 0) 10) 1 0
-feeds-step s i k h l =
-    let e : k + 1 - i ≡ k - i + 1 = omega arith in
-    let d : i + (k - i) ≡ k = omega arith in
-    let b : k - i < length (drop i s) = rw length-drop (omega arith) in
-    ap (λ (n : ℕ). feedsIn (take n (drop i s))) e ∙ feeds-more (k - i) (drop i s) b ∙ rw (getD-drop i s (k - i) 0, d)
+  pub count-byte : (s : List ℕ) (i k : ℕ) → i + k < length s → countOf b (take (k + 1) (drop i s)) ≡ countOf b (take k (drop i s)) + cond (eqb (getD s (i + k) 0) b) 1 0
+  count-byte s i k l =
+      let d : k < length (drop i s) = rw length-drop (omega arith) in
+      count-more k (drop i s) d ∙ rw (getD-drop i s k 0)
+
+  -- the first byte of a block, and the rest of it
+  pub count-first : (s : List ℕ) (i m : ℕ) → i < length s → countOf b (take (suc m) (drop i s)) ≡ cond (eqb (getD s i 0) b) 1 0 + countOf b (take m (drop (i + 1) s))
+  unfolding countOf
+  count-first s i m h = rw (add-one i, drop-cons s i 0 h)
 
 -- ---- the end of a line
 module _ (s : List ℕ) (p : ℕ) where
@@ -182,9 +186,6 @@ module _ {s : List ℕ} {i e : ℕ} (t : Stop 44 s i e) where
     where
       len-is : length (cellAt 44 s i) ≡ q - i
       len-is = omega (arith, h)
-
-  pub span-none : (k : ℕ) → getD s (cellEnd 44 s i) 0 ≡ 10 → cellSpan s i (k + 1) ≡ record { start = 0; len = 0 }
-  span-none k h = ap (λ (n : ℕ). cellSpan s i n) (add-one k) ∙ ap (λ (ts : List (List ℕ)). spanIn i ts (suc k)) (pieces-last t h) ∙ span-on i (cellAt 44 s i) [] k ∙ span-past (i + length (cellAt 44 s i) + 1) k
 
   pub span-more : (k : ℕ) → (getD s (cellEnd 44 s i) 0 ≡ 10 → ⊥) → cellSpan s i (k + 1) ≡ cellSpan s (cellEnd 44 s i + 1) k
   unfolding cellEnd

@@ -1,25 +1,36 @@
 -- The lines before the units line of an accepted file: its headers, one a line, and then its names line.
-use Prim.Native.Nat.{ℕ, zero, suc, _+_, _-_, _≤_}
+use Prim.Native.Nat.{ℕ, zero, suc, _+_, _-_, _≤_, _<_}
 use mathlib.Core.Path.{_≡_, refl, sym, ap, subst, _∙_}
 use mathlib.Core.List.{List, [], _∷_, _++_, append-assoc, append-nil}
-use mathlib.Core.Bool.{Bool, true, false, cond}
+use mathlib.Core.Bool.{Bool, true, false, cond, _&&_}
 use native.Mathlib.Omega.{arith}
 use lib.ListN.{length, getD, drop}
-use lib.Dec.{eqb}
+use lib.Dec.{eqb, leb, ltb}
+use borrow.Author.Tests.{ltb-true}
 use Rattle.bytes.specs.Cells.{pieces}
+use Rattle.bytes.specs.Names.{isName}
 use Rattle.format.specs.Faults.{clean, _then_, firstOf, unless}
-use Rattle.format.specs.Headers.{Header, headerOf, namesIn, headersSaid, headerNameRule, firstHeaderRules, headerRules, lastHeaderRules}
+use Rattle.format.specs.Headers.{rawName, nameOf, Header, headerOf, namesIn, headersSaid, headerNameRule, firstHeaderRules, headerRules, lastHeaderRules}
 use Rattle.format.specs.Columns.{Sort, bottle, ctd, namesOf}
 use Rattle.format.specs.Places.{Table, Place, first, comments, headers, names, units, rows, isBottle, isComment, firstLineRules, dueHeaders, step, accepted, run, outcomeOf}
 use Rattle.format.specs.Inner.Faults.{lineFault, firstHeaderFault, headerFault, namesLineFault}
 use Rattle.format.proofs.AcceptLaws.{stops-refused, cut-refused, early-ends, rows-accepted}
-use Rattle.format.proofs.FaultLaws.{then-clean}
+use Rattle.format.proofs.FaultLaws.{breaks-clean, then-clean}
 use Rattle.format.proofs.RuleLaws.{first-step, comment-step, names-step, bottle-step, units-step, afterHeader, first-header-step, header-step}
 
 -- the first lines of a list are the headers hs, one a line
 pub data HeadsIn : List (List ℕ) → List Header → Type 0 where
   none : {ps : List (List ℕ)} → HeadsIn ps []
   more : {x : List ℕ} {ps : List (List ℕ)} {hs : List Header} → lineFault true x ≡ clean → headerNameRule x ≡ clean → HeadsIn ps hs → HeadsIn (x ∷ ps) (headerOf x ∷ hs)
+
+-- a header line has an =
+pub equals-inside : (x : List ℕ) → headerNameRule x ≡ clean → length (rawName x) < length x
+unfolding headerNameRule
+equals-inside x e = go (ltb (length (rawName x)) (length x)) refl e
+  where
+    go : (b : Bool) → ltb (length (rawName x)) (length x) ≡ b → unless (b && leb (length (nameOf x)) 64 && isName (nameOf x)) 8 1 ≡ clean → length (rawName x) < length x
+    go true h k = ltb-true (length (rawName x)) (length x) h
+    go false h k = absurd (breaks-clean 8 1 k)
 
 -- the names line x of a table: its columns, and no rule broken
 pub record NamesKept (t : Table) (x : List ℕ) : Type 0 where

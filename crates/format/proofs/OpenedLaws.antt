@@ -82,6 +82,10 @@ heads-stand s k ps hs (heads.more {x = x} {ps = qs} {hs = gs} a b r) e h =
     later : drop (k + 1) (pieces 10 s) ≡ qs
     later = sym (drop-drop 1 k (pieces 10 s)) ∙ ap (λ (ls : List (List ℕ)). drop 1 ls) e
 
+pub headers-order : {s : List ℕ} {end i l : ℕ} {hs : List Header} → HeaderLines s end i l hs → i ≤ end
+headers-order none = omega arith
+headers-order (more p a b h) = omega (arith, headers-order h)
+
 -- ---- an opened file
 pub opened-checked : (s : List ℕ) → openedOf s .checked ≡ checkedOf s
 unfolding openedOf checkedOf

@@ -47,6 +47,17 @@ piece-take c (x ∷ xs) = go (eqb x c) (piece-take c xs)
     go true h = refl
     go false h = rw h
 
+piece-drop : (c : ℕ) (xs : List ℕ) (n : ℕ) → n ≤ length (firstPiece c xs) → drop n (firstPiece c xs) ≡ firstPiece c (drop n xs)
+unfolding firstPiece
+piece-drop c xs zero h = refl
+piece-drop c [] (suc n) h = absurd (omega arith)
+piece-drop c (x ∷ xs) (suc n) h = go (eqb x c) h (piece-drop c xs n)
+  where
+    go : (b : Bool) → suc n ≤ length (cond b [] (x ∷ firstPiece c xs)) → (n ≤ length (firstPiece c xs) → drop n (firstPiece c xs) ≡ firstPiece c (drop n xs))
+        → drop (suc n) (cond b [] (x ∷ firstPiece c xs)) ≡ firstPiece c (drop n xs)
+    go true h f = absurd (omega arith)
+    go false h f = f (omega arith)
+
 pieces-feed : (c : ℕ) (xs : List ℕ) → length (firstPiece c xs) < length xs
     → (laterPieces c xs ≡ pieces c (drop (suc (length (firstPiece c xs))) xs)) × (getD xs (length (firstPiece c xs)) 0 ≡ c)
 unfolding firstPiece laterPieces
@@ -81,6 +92,10 @@ module _ (s : List ℕ) (i : ℕ) where
       let f = pieces-feed 10 (drop i s) (rw length-drop (omega arith)) in
       let k : i + suc (length (lineAt s i)) ≡ i + length (lineAt s i) + 1 = omega arith in
       ap (λ (r : List (List ℕ)). lineAt s i ∷ r) (f .0 ∙ rw (drop-drop, k))
+
+  -- what is left of the line
+  pub line-later : (k : ℕ) → k ≤ length (lineAt s i) → lineAt s (i + k) ≡ drop k (lineAt s i)
+  line-later k h = sym (piece-drop 10 (drop i s) k h ∙ ap (firstPiece 10) (drop-drop k i s))
 
   -- the line feed stands there
   pub line-feed : i + length (lineAt s i) < length s → getD s (i + length (lineAt s i)) 0 ≡ 10

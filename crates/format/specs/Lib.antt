@@ -2,6 +2,7 @@ pub mod Faults
 pub mod LineRules
 pub mod Headers
 pub mod Columns
+pub mod NamesLine
 pub mod Rows
 pub mod Places
 pub mod Grid
@@ -10,4 +11,7 @@ pub mod Answers
 pub mod Located
 pub mod Records
 pub mod Opened
+pub mod ByPlace
+pub mod Labels
+pub mod ReadingNumbers
 pub mod Inner

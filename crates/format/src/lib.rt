@@ -1,4 +1,5 @@
 // The types of a file's answers; its definitions stand in specs/, its laws in proofs/. No function.
+use text::Reading;
 use text::Span;
 
 // The kind of a file.
@@ -27,6 +28,14 @@ pub struct Opened {
     pub headers: usize,
     pub names: usize,
     pub first: usize,
+}
+
+// The number of a column, from 1; or the refusal.
+pub struct Named {
+    pub number: u64,
+    pub line: u64,
+    pub column: u64,
+    pub place: u64,
 }
 
 // A flag, or the refusal.
@@ -61,6 +70,27 @@ pub struct CellPlace {
     pub line: u64,
     pub column: u64,
     pub place: Span,
+}
+
+// Where the name and the value of a header stand, both trimmed; or the refusal, with empty places at the file's start.
+pub struct HeaderPlace {
+    pub number: u64,
+    pub line: u64,
+    pub column: u64,
+    pub name: Span,
+    pub value: Span,
+}
+
+// The reading of a line's cell, and where the next line starts.
+pub struct DecimalStep {
+    pub reading: Reading,
+    pub next: usize,
+}
+
+// The flag of a line's cell, and where the next line starts.
+pub struct FlagStep {
+    pub flagged: Flagged,
+    pub next: usize,
 }
 
 // Where the cells of a measurement stand, with their spaces, and what column they are of; or the refusal.

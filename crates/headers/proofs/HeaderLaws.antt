@@ -1,12 +1,12 @@
 -- One header line: its name and its value by place, what its rules say at each return, and what its callers have of it.
-use Prim.Native.Nat.{ℕ, min, zero, suc, _+_, _-_, _≤_, _<_}
+use Prim.Native.Nat.{ℕ, min, _+_, _-_, _≤_, _<_}
 use mathlib.Core.Path.{_≡_, refl, sym, ap, _∙_}
-use mathlib.Core.List.{List, [], _∷_}
+use mathlib.Core.List.{List}
 use mathlib.Core.Bool.{Bool, true, false, cond, not, _&&_}
 use native.Mathlib.Nat.{add-zero}
 use native.Mathlib.Omega.{arith}
 use lib.ListN.{length, take, drop, drop-of-length-le}
-use lib.Seq.{slice, take-take, drop-drop}
+use lib.Seq.{slice, take-take}
 use lib.Dec.{eqb, ltb, leb}
 use borrow.Author.Tests.{lt-ltb, le-ltb, ltb-true, ltb-false, le-leb, lt-leb, leb-true}
 use Rattle.verdicts.specs.declared.Judged.{Judged}
@@ -33,21 +33,9 @@ use Rattle.format.specs.Inner.Names.{textIn, namesAt}
 use Rattle.headers.specs.Inner.Headers.{Parted, namedFaultAt, firstHeaderFaultAt, headerFaultAt, noHeader, headerFor, noFirstHeader, firstHeaderFor}
 use Rattle.format.proofs.NameLaws.{place-member, names-few, names-length}
 use Rattle.format.proofs.RuleLaws.{then-none}
-use Rattle.format.proofs.RunLaws.{piece-in, piece-take, line-feed, line-clean, line-zero, zero-line, line-fault, line-short, line-ends, line-rules}
+use Rattle.format.proofs.RunLaws.{piece-in, piece-take, line-later, line-feed, line-clean, line-zero, zero-line, line-fault, line-short, line-ends, line-rules}
 use Rattle.format.proofs.NumberLaws.{Numbered, numbered-nonzero, number-then, line-at-numbered, header-name-numbered, first-header-numbered, header-numbered}
 use Rattle.format.proofs.FaultLaws.{breaks-clean, fault-clean, fault-broken, then-clean, then-second}
-
--- ---- what is left of a first piece
-piece-drop : (c : ℕ) (xs : List ℕ) (n : ℕ) → n ≤ length (firstPiece c xs) → drop n (firstPiece c xs) ≡ firstPiece c (drop n xs)
-unfolding firstPiece
-piece-drop c xs zero h = refl
-piece-drop c [] (suc n) h = absurd (omega arith)
-piece-drop c (x ∷ xs) (suc n) h = go (eqb x c) h (piece-drop c xs n)
-  where
-    go : (b : Bool) → suc n ≤ length (cond b [] (x ∷ firstPiece c xs)) → (n ≤ length (firstPiece c xs) → drop n (firstPiece c xs) ≡ firstPiece c (drop n xs))
-        → drop (suc n) (cond b [] (x ∷ firstPiece c xs)) ≡ firstPiece c (drop n xs)
-    go true h f = absurd (omega arith)
-    go false h f = f (omega arith)
 
 -- ---- the search for the =: a cell's end, parted by =
 module _ (s : List ℕ) (i : ℕ) where
@@ -75,9 +63,8 @@ module _ {s : List ℕ} {i q e : ℕ} (t : Parted s i q e) where
   pub part-value : lineAt s (q + 1) ≡ valueOf (lineAt s i)
   part-value =
       let n = length (rawName (lineAt s i)) in
-      let k : i + (n + 1) ≡ q + 1 = omega (arith, t .equals) in
-      sym (piece-drop 10 (drop i s) (n + 1) (omega (arith, t .equals, t .end, t .before))
-      ∙ ap (firstPiece 10) (drop-drop (n + 1) i s ∙ ap (λ (m : ℕ). drop m s) k))
+      let k : q + 1 ≡ i + (n + 1) = omega (arith, t .equals) in
+      ap (lineAt s) k ∙ line-later s i (n + 1) (omega (arith, t .equals, t .end, t .before))
 
   pub value-cell : cellAt 10 s (q + 1) ≡ valueOf (lineAt s i)
   value-cell = cell-line s (q + 1) ∙ part-value

@@ -5,8 +5,13 @@ pub mod LineKeepLaws
 pub mod WriteLaws
 pub mod AskedLaws
 pub mod MissingLaws
+pub mod DecimalLaws
+pub mod FlagColumnLaws
+pub mod PlaceLaws
+pub mod NamingLaws
 pub mod LabelLaws
 pub mod ProfileLaws
 pub mod RuleOrderLaws
 pub mod RuleNumberLaws
 pub mod FirstBrokenLaws
+pub mod OpenedReadLaws

@@ -1,3 +1,5 @@
 pub mod RuleOrder
 pub mod Promises
+pub mod OpenedReads
+pub mod Labels
 pub mod Inner

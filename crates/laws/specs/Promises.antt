@@ -1,14 +1,20 @@
 -- Laws of the answers that a reader wants to see stated, in document 01's words; the equations of the calls cite the definitions that these laws are about.
--- A term of each type stands in proofs/: AskedLaws, MissingLaws, ProfileLaws, FirstBrokenLaws.
-use Prim.Native.Nat.{ℕ, zero, suc, _+_, _≤_, _<_}
+-- A term of each type stands in proofs/: AskedLaws, MissingLaws, DecimalLaws, PlaceLaws, ProfileLaws, FirstBrokenLaws.
+use Prim.Native.Nat.{ℕ, zero, suc, _+_, _^_, _≤_, _<_}
 use mathlib.Core.Path.{_≡_}
 use mathlib.Core.Logic.{_↔_, _⊎_}
 use mathlib.Core.List.{List, [], _∷_, _++_}
 use mathlib.Core.Bool.{Bool, true, false, cond, _&&_}
-use lib.IntN.{pos, negℤ}
+use lib.ListN.{take, drop}
+use lib.Dec.{T}
+use lib.IntN.{ℤ, pos, negℤ}
+use lib.Ieee.{Float}
+use lib.Ieee.Scale.{finite}
+use Rattle.bytes.specs.declared.Span.{Span}
+use Rattle.bytes.specs.Spaces.{trim}
 use Rattle.text.specs.declared.Reading.{Reading}
 use Rattle.text.specs.declared.Reading.the-variants.{Present, Missing, Refused}
-use Rattle.verdicts.specs.Verdicts.{Verdict, millionthsOf}
+use Rattle.verdicts.specs.Verdicts.{Verdict, good, millionthsOf}
 use Rattle.verdicts.specs.Kinds.{Kind, measured, latitude, longitude, depth, flag, ctdFlag, kindOf}
 use Rattle.verdicts.specs.Judge.{judge}
 use Rattle.text.specs.Reading.{doubleOf, readNumber, isDecimal}
@@ -18,8 +24,9 @@ use Rattle.format.specs.Columns.{bottle, ctd, kindsOf}
 use Rattle.format.specs.Places.{Table, after, Outcome, accepted, refused, outcomeOf}
 use Rattle.format.specs.Profiles.{Key, keyOf}
 use Rattle.format.specs.Answers.{checkedBy, checkedOf, isThere, askedOf, kindAt, rowCells, cellText, cellPlace, trimmedPlace, cellOf, refusalBy, readingFor, flaggedOf}
-use Rattle.format.specs.Located.{isMeasured}
-use Rattle.format.specs.Records.{noProfile, profileOf}
+use Rattle.format.specs.Located.{isMeasured, flagColumn, locatedOf}
+use Rattle.format.specs.ReadingNumbers.{readValue}
+use Rattle.format.specs.Records.{given, stationValue, noProfile, profileOf}
 use Rattle.laws.specs.RuleOrder.{linesIn, placeBefore, rulesOf}
 
 -- ---- the kind of a column, counted from 1, of a file with the table t; its cell judged
@@ -77,6 +84,38 @@ abbrev pub PresentThere : Type 0
 PresentThere = (f : List ℕ) (t : Table) (n : ℕ) → outcomeOf f ≡ accepted t n → (r c : ℕ) → isThere t n r c ≡ true
     → (columnKind t c ≡ latitude) ⊎ (columnKind t c ≡ longitude)
     → readingFor f r c ≡ Present (millionthsOf (cellVerdict t f r c)) (doubleOf (millionthsOf (cellVerdict t f r c)))
+
+-- a good text's number is the one it writes, by its sign and its size: that is below 10^15, so that 0 never stands for a number too large (Verdicts: signed)
+pub record NumbersWritten : Type 0 where
+  pub below : (k : Kind) (x : List ℕ) (minus : Bool) (size decimals : ℕ) → judge k x ≡ good minus size decimals → size < 10 ^ 15
+  pub number : (k : Kind) (x : List ℕ) (minus : Bool) (size decimals : ℕ) → judge k x ≡ good minus size decimals
+      → millionthsOf (judge k x) ≡ cond minus (negℤ (pos size)) (pos size)
+
+-- the double of a present reading is finite: neither NaN nor infinite
+abbrev pub NoNan : Type 0
+NoNan = (f : List ℕ) (r c : ℕ) (millionths : ℤ) (value : Float) → readingFor f r c ≡ Present millionths value → T (finite value)
+
+-- and so is the double that stands for any reading in a table or an export
+abbrev pub ValueFinite : Type 0
+ValueFinite = (f : List ℕ) (r c : ℕ) → T (finite (readValue (readingFor f r c)))
+
+-- ---- "Lines": the bytes at a place that is handed out are the text that is read there
+abbrev pub bytesAt : List ℕ → Span → List ℕ
+bytesAt f p = take (p .len) (drop (p .start) f)
+
+pub record Placed (f : List ℕ) (t : Table) (n : ℕ) : Type 0 where
+  -- a cell, with its spaces; the cell that the call hands out, without them
+  pub cell : (r c : ℕ) → isThere t n r c ≡ true → bytesAt f (cellPlace t f r c) ≡ cellText t f r c
+  pub trimmed : (r c : ℕ) → isThere t n r c ≡ true → bytesAt f (cellOf f r c) ≡ trim (cellText t f r c)
+  -- the cells of a measurement: its value, and where it is flagged its flag, whose column is there
+  pub value : (r c : ℕ) → isThere t n r c ≡ true → bytesAt f (locatedOf f r c .value) ≡ cellText t f r c
+  pub flag : (r c : ℕ) → isThere t n r c ≡ true → locatedOf f r c .flagged ≡ true
+      → (isThere t n r (flagColumn t c) ≡ true) × (bytesAt f (locatedOf f r c .flag) ≡ cellText t f r (flagColumn t c))
+  -- a station value, of a column or a header, with its spaces and without
+  pub station : (r : ℕ) → 1 ≤ r → r ≤ n → (name x : List ℕ) (p : Span) → stationValue t f r name ≡ given x p → (bytesAt f p ≡ x) × (bytesAt f (trimmedPlace f p) ≡ trim x)
+
+abbrev pub PlacesHold : Type 0
+PlacesHold = (f : List ℕ) (t : Table) (n : ℕ) → outcomeOf f ≡ accepted t n → Placed f t n
 
 -- ---- "Profiles": the missing readings of the check are the row and measured column pairs that read as missing
 abbrev pub isMissingReading : Reading → Bool

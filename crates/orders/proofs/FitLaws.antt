@@ -27,6 +27,7 @@ use Rattle.format.specs.Located.{nameAt, isMeasured, flagColumn, hasFlag}
 use Rattle.format.proofs.FaultLaws.{then-clean, breaks-clean}
 use Rattle.format.proofs.GridLaws.{cells-many}
 use Rattle.format.proofs.InsideLaws.{Inside}
+use Rattle.laws.proofs.FlagColumnLaws.{FlagOf, flag-of}
 use Rattle.laws.proofs.AskedLaws.{there-inside}
 use Rattle.laws.proofs.JoinLaws.{Free, All}
 use Rattle.laws.proofs.WriteLaws.{RowHolds, row-holds, Fits}
@@ -42,7 +43,7 @@ use Rattle.orders.proofs.GeometryLaws.{Shape, shape, cell-row, widthAt,
 use Rattle.orders.proofs.PutLaws.{Put, Fit, inRow}
 use Rattle.orders.proofs.TestLaws.{none-holds, passed}
 use Rattle.orders.proofs.PlanLaws.{lineOf, blankRow, blank-width, decideIn, putOf}
-use Rattle.orders.proofs.ColumnLaws.{FlagOf, flag-of, Measured}
+use Rattle.orders.proofs.ColumnLaws.{Measured}
 
 -- ---- what an applied correction asks for
 -- of a number, to be written into column c

@@ -4,7 +4,7 @@ use Prim.Native.Nat.{ℕ, zero, suc, _+_, _≤_, _<_}
 use mathlib.Core.Path.{_≡_, refl, sym, ap, _∙_, subst}
 use mathlib.Core.List.{List, [], _∷_, _++_, map, append-assoc}
 use native.Mathlib.Omega.{arith}
-use lib.ListN.{length, getD, set, take, drop, length-append, length-map, List·getD-map}
+use lib.ListN.{length, getD, set, drop, length-append, length-map, List·getD-map}
 use lib.Seq.{getD-set-same, getD-set-other, set-set, set-comm, map-set-same, take-at, drop-at}
 use Rattle.format.specs.Grid.{starts}
 use Rattle.laws.specs.Inner.Writes.{joinLater, join, ungrid}
@@ -203,13 +203,6 @@ put-patch g l c t h e =
     around-put g l c h t
     ∙ sym (patch-around (front g l c) (cellIn g l c) (rest g l c) t (begin (shape g) l c) (front-long g l c) (e ∙ width-cell g l c))
     ∙ ap (λ (x : List ℕ). patch x (begin (shape g) l c) t) (sym (around g l c h))
-
--- a cell is the bytes of the file from there on
-pub cell-bytes : (g : Grid) (l c : ℕ) → Inside (shape g) l c → take (widthAt (shape g) l c) (drop (begin (shape g) l c) (ungrid g)) ≡ cellIn g l c
-cell-bytes g l c h =
-    ap (λ (x : List ℕ). take (widthAt (shape g) l c) (drop (begin (shape g) l c) x)) (around g l c h)
-    ∙ ap (take (widthAt (shape g) l c)) (drop-at (front g l c) (cellIn g l c ++ rest g l c) (begin (shape g) l c) (front-long g l c))
-    ∙ take-at (cellIn g l c) (rest g l c) (widthAt (shape g) l c) (sym (width-cell g l c))
 
 -- ---- the bytes outside the cell
 abbrev pub In : ℕ → ℕ → ℕ → Type 0

@@ -17,5 +17,4 @@ pub mod OneLineLaws
 pub mod FieldLaws
 pub mod ListLineLaws
 pub mod TestLaws
-pub mod UniqueLaws
 pub mod WrittenLaws

@@ -9,6 +9,7 @@ use native.Mathlib.Omega.{arith}
 use Rattle.format.specs.Places.{Table, Outcome, accepted, refused, outcomeOf}
 use Rattle.format.specs.Profiles.{grid}
 use Rattle.format.specs.Located.{flagColumn, hasFlag}
+use Rattle.laws.proofs.FlagColumnLaws.{flag-of}
 use Rattle.laws.proofs.JoinLaws.{All}
 use Rattle.numbers.specs.Texts.{flagText}
 use Rattle.orders.specs.declared.Answer.{Answer}
@@ -18,8 +19,8 @@ use Rattle.orders.specs.Corrections.{Entry, entry, valueEntry, flagEntri
 use Rattle.orders.proofs.GeometryLaws.{Shape, shape}
 use Rattle.orders.proofs.PutLaws.{Put, Apart, AllApart, Distinct}
 use Rattle.orders.proofs.PlanLaws.{lineOf, decideIn, putOf, writesTo, writes, ifApplied, Part, planBy}
-use Rattle.orders.proofs.UniqueLaws.{accepted-unique}
-use Rattle.orders.proofs.ColumnLaws.{flag-of, Measured, roles, CellOf, cell-once}
+use Rattle.format.proofs.UniqueLaws.{accepted-unique}
+use Rattle.orders.proofs.ColumnLaws.{Measured, roles, CellOf, cell-once}
 use Rattle.orders.proofs.FitLaws.{Asked, applied-asked}
 use Rattle.orders.proofs.KeepsLaws.{partOf}
 

@@ -2,11 +2,11 @@
 -- leaves are the file's grid with these writes.
 use Prim.Native.Nat.{ℕ, zero, suc, _+_, _-_, _<_}
 use mathlib.Core.Path.{_≡_, refl, sym, ap, _∙_, subst}
-use mathlib.Core.Bool.{Bool, true, false, cond, _||_}
+use mathlib.Core.Bool.{cond, _||_}
 use mathlib.Core.List.{List, [], _∷_, map}
-use lib.ListN.{length, getD, take, drop, replicate, length-map, length-replicate, List·getD-map, List·getD-eq-default}
+use lib.ListN.{length, getD, replicate, length-map, length-replicate, List·getD-map}
 use lib.Dec.{ltb}
-use borrow.Author.Tests.{ltb-true, ltb-false, lt-ltb}
+use borrow.Author.Tests.{lt-ltb}
 use Rattle.bytes.specs.declared.Span.{Span}
 use Rattle.bytes.specs.Cells.{pieces}
 use Rattle.format.specs.Places.{Table, Outcome, accepted, refused, outcomeOf}
@@ -15,6 +15,7 @@ use Rattle.laws.specs.Inner.Writes.{join, ungrid}
 use Rattle.format.specs.Profiles.{grid}
 use Rattle.format.specs.Answers.{cellPlace}
 use Rattle.laws.proofs.JoinLaws.{All}
+use Rattle.laws.proofs.PlaceLaws.{span-text}
 use Rattle.laws.proofs.UngridLaws.{clean-grid, ungrid-grid, lines-ungrid}
 use Rattle.numbers.specs.Texts.{atRight}
 use Rattle.numbers.specs.Patches.{textAt, patch}
@@ -22,7 +23,7 @@ use Rattle.orders.specs.declared.Answer.{Answer}
 use Rattle.orders.specs.declared.Answer.the-variants.{Applied, Refused}
 use Rattle.orders.specs.declared.Order.{Order}
 use Rattle.orders.specs.Corrections.{Entry, entriesOf, numberEntries, anyLonger, textTooLong, testsOf, firstThat, ownText, answerBy, answerOf, fillAt, fillsBy, fillsOf, filled, leftBy, correctedOf}
-use Rattle.orders.proofs.GeometryLaws.{Grid, Shape, widthsOf, shape, put, cellIn, cell-row, widthAt, width-cell, Inside, inside-of, shape-put, lineLong, begin, lines-long, put-patch, cell-bytes}
+use Rattle.orders.proofs.GeometryLaws.{Grid, Shape, widthsOf, shape, put, cellIn, cell-row, widthAt, width-cell, Inside, shape-put, lineLong, begin, lines-long, put-patch}
 use Rattle.orders.proofs.PutLaws.{Put, puts, Fit}
 
 -- ---- the place of a cell, by the widths
@@ -41,38 +42,25 @@ span-inside sh l c h = rw (lt-ltb c (length (getD sh l [])) (inside-row sh l c h
 lines-joined : (f : List ℕ) → map (join 44) (grid f) ≡ pieces 10 f
 lines-joined f = sym (lines-ungrid (grid f) (clean-grid f)) ∙ ap (pieces 10) (ungrid-grid f)
 
-pub place-shape : (t : Table) (f : List ℕ) (r c : ℕ) → cellPlace t f r c ≡ spanAt (shape (grid f)) (t .line + (r - 1)) (c - 1)
+span-shape : (f : List ℕ) (l k : ℕ) → spanIn (starts (map length (pieces 10 f)) l) (getD (grid f) l []) k ≡ spanAt (shape (grid f)) l k
 unfolding spanIn spanAt begin
-place-shape t f r c = go (t .line + (r - 1)) (c - 1)
-  where
-    go : (l k : ℕ) → spanIn (starts (map length (pieces 10 f)) l) (getD (grid f) l []) k ≡ spanAt (shape (grid f)) l k
-    go l k =
-        let ts : List (List ℕ) = getD (grid f) l [] in
-        let ws : List ℕ = getD (shape (grid f)) l [] in
-        let e : ws ≡ map length ts = List·getD-map widthsOf (grid f) l [] in
-        let n : length ts ≡ length ws = sym (ap length e ∙ length-map ts length) in
-        let i : starts (map length (pieces 10 f)) l ≡ starts (map lineLong (shape (grid f))) l =
-        ap (λ (ws : List ℕ). starts ws l) (ap (map length) (sym (lines-joined f)) ∙ lines-long (grid f)) in
-        let a : starts (map length ts) k ≡ starts ws k = ap (λ (ws : List ℕ). starts ws k) (sym e) in
-        let w : length (getD ts k []) ≡ widthAt (shape (grid f)) l k = sym (width-cell (grid f) l k ∙ ap length (cell-row (grid f) l k)) in
-        λ z. cond (ltb k (n z)) (record { start = i z + a z; len = w z }) nowhere
+span-shape f l k =
+    let ts : List (List ℕ) = getD (grid f) l [] in
+    let ws : List ℕ = getD (shape (grid f)) l [] in
+    let e : ws ≡ map length ts = List·getD-map widthsOf (grid f) l [] in
+    let n : length ts ≡ length ws = sym (ap length e ∙ length-map ts length) in
+    let i : starts (map length (pieces 10 f)) l ≡ starts (map lineLong (shape (grid f))) l =
+    ap (λ (ws : List ℕ). starts ws l) (ap (map length) (sym (lines-joined f)) ∙ lines-long (grid f)) in
+    let a : starts (map length ts) k ≡ starts ws k = ap (λ (ws : List ℕ). starts ws k) (sym e) in
+    let w : length (getD ts k []) ≡ widthAt (shape (grid f)) l k = sym (width-cell (grid f) l k ∙ ap length (cell-row (grid f) l k)) in
+    λ z. cond (ltb k (n z)) (record { start = i z + a z; len = w z }) nowhere
+
+pub place-shape : (t : Table) (f : List ℕ) (r c : ℕ) → cellPlace t f r c ≡ spanAt (shape (grid f)) (t .line + (r - 1)) (c - 1)
+place-shape t f r c = span-shape f (t .line + (r - 1)) (c - 1)
 
 -- the bytes at the place of a cell are the cell
 pub text-place : (f : List ℕ) (l c : ℕ) → textAt f (spanAt (shape (grid f)) l c) ≡ cellIn (grid f) l c
-unfolding spanAt
-text-place f l c = go (ltb c (length (getD (grid f) l []))) refl
-  where
-    long : length (getD (shape (grid f)) l []) ≡ length (getD (grid f) l [])
-    long = ap length (List·getD-map widthsOf (grid f) l []) ∙ length-map (getD (grid f) l []) length
-
-    go : (b : Bool) → ltb c (length (getD (grid f) l [])) ≡ b → textAt f (spanAt (shape (grid f)) l c) ≡ cellIn (grid f) l c
-    go true e =
-        let h : Inside (shape (grid f)) l c = inside-of (grid f) l c (ltb-true c (length (getD (grid f) l [])) e) in
-        ap (textAt f) (span-inside (shape (grid f)) l c h)
-        ∙ ap (λ (x : List ℕ). take (widthAt (shape (grid f)) l c) (drop (begin (shape (grid f)) l c) x)) (sym (ungrid-grid f))
-        ∙ cell-bytes (grid f) l c h
-    go false e =
-        rw (long, e) (sym (cell-row (grid f) l c ∙ List·getD-eq-default (getD (grid f) l []) [] (ltb-false c (length (getD (grid f) l [])) e)))
+text-place f l c = ap (textAt f) (sym (span-shape f l c)) ∙ span-text f l c ∙ sym (cell-row (grid f) l c)
 
 abbrev pub lineOf : Table → Order → ℕ
 lineOf t o = t .line + (o .row - 1)

@@ -17,6 +17,7 @@ use Rattle.format.specs.Places.{Table, Outcome, accepted, refused, outcomeOf}
 use Rattle.format.specs.Profiles.{grid}
 use Rattle.format.specs.Answers.{kindAt, found, askedBy, askedOf, cellText, readingBy, readingFor, flaggedBy, flaggedOf}
 use Rattle.format.specs.Located.{nameAt, flagColumn, hasFlag, flagColumnBy, flagColumnOf}
+use Rattle.laws.proofs.FlagColumnLaws.{FlagOf, flag-of}
 use Rattle.laws.proofs.JoinLaws.{All}
 use Rattle.format.proofs.InsideLaws as ask
 use Rattle.numbers.specs.Texts.{numberText, flagText, atRight}
@@ -31,7 +32,6 @@ use Rattle.orders.proofs.TestLaws.{not-applied}
 use Rattle.orders.proofs.GeometryLaws.{Grid, Shape, shape, cellIn, cell-row, widthAt, width-cell}
 use Rattle.orders.proofs.PutLaws.{Put, puts, AllApart, Stands, stands-kept}
 use Rattle.orders.proofs.PlanLaws.{lineOf, decideIn, decide, answer-view, putOf, writesTo, all-writes, writes-all, writes, ifApplied, Part, planBy}
-use Rattle.orders.proofs.ColumnLaws.{FlagOf, flag-of}
 use Rattle.orders.proofs.FitLaws as fit
 use Rattle.orders.proofs.KeepsLaws.{partOf, planOf, keeps, done, answer-kept, part-kept}
 use Rattle.orders.proofs.PartLaws.{valuePart, plan-distinct}

@@ -11,10 +11,9 @@ use borrow.Author.Tests.{ne-eqb, ltb-true}
 use Rattle.bytes.specs.declared.Span.{Span}
 use Rattle.bytes.specs.Bytes.{bytes, equal}
 use Rattle.bytes.specs.Spaces.{trim}
-use Rattle.bytes.specs.Names.{parameterLength}
 use Rattle.verdicts.specs.Kinds.{Kind, castno, date}
 use Rattle.verdicts.specs.Judge.{judge}
-use Rattle.text.specs.Catalogue.{listed, base256, insert, ordered, flat, names, kinds, searchFrom, lookUp, kindIn}
+use Rattle.text.specs.Catalogue.{names, kinds}
 use Rattle.verdicts.specs.Verdicts.{sizeOf}
 use Rattle.format.specs.Faults.{placeIn}
 use Rattle.format.specs.Headers.{Header}
@@ -24,6 +23,8 @@ use Rattle.format.specs.Profiles.{grid, cellOfKind, Key, keyOf, runCount, rowsO
 use Rattle.format.specs.Answers.{rowsIn, profilesBy, checkedBy, checkedOf, cellText, cellPlace}
 use Rattle.format.specs.Records.{Value, given, absent, headerPlace, headerValue, headersLine, columnValue, valueBy, stationValue, labelsBy, profileRows, numberIn, castTime, recordOf, profileBy, profileOf}
 use Rattle.format.proofs.NameLaws.{place-name}
+use Rattle.format.proofs.StationLaws.{time-kind, castno-kind, date-kind}
+use Rattle.format.proofs.GridLaws.{getD-map-in}
 use Rattle.laws.proofs.JoinLaws.{All}
 use Rattle.orders.specs.declared.Answer.{Answer}
 use Rattle.orders.specs.declared.Answer.the-variants.{Applied, Refused}
@@ -34,7 +35,7 @@ use Rattle.orders.specs.Demand3.{Kept}
 use Rattle.orders.proofs.GeometryLaws.{Grid, Shape, shape, cellIn, cell-row}
 use Rattle.orders.proofs.PutLaws.{Put, Misses, cell-puts-other, map-puts}
 use Rattle.orders.proofs.PlanLaws.{lineOf, decideIn, all-writes, writes, ifApplied, planBy, plan}
-use Rattle.orders.proofs.ColumnLaws.{getD-map-in, roles, cell-low}
+use Rattle.orders.proofs.ColumnLaws.{roles, cell-low}
 use Rattle.orders.proofs.FitLaws.{applied-asked}
 use Rattle.orders.proofs.KeepsLaws.{planOf, keeps, length-kept}
 use Rattle.orders.proofs.PartLaws.{Cell, all-cells}
@@ -86,19 +87,6 @@ module _ {A B : Type 0} (f : A → B) where
   map-part n zero l = map-take n l
   map-part n (suc m) [] = map-take n []
   map-part n (suc m) (x ∷ l) = map-part n m l
-
--- ---- the kinds of the names that a profile's record is read from
-time-kind : kindOfName (bytes "TIME") ≡ 10
-unfolding kindOfName parameterLength equal kindIn lookUp searchFrom names kinds flat ordered listed insert base256
-time-kind = refl
-
-castno-kind : kindOfName (bytes "CASTNO") ≡ 8
-unfolding kindOfName parameterLength equal kindIn lookUp searchFrom names kinds flat ordered listed insert base256
-castno-kind = refl
-
-date-kind : kindOfName (bytes "DATE") ≡ 9
-unfolding kindOfName parameterLength equal kindIn lookUp searchFrom names kinds flat ordered listed insert base256
-date-kind = refl
 
 -- ---- in an accepted file
 module _ (f : List ℕ) (o : Order) (t : Table) (n : ℕ) (e : outcomeOf f ≡ accepted t n) where

@@ -18,13 +18,13 @@ use Rattle.bytes.proofs.SpaceLaws.{isSolid, trim-solid}
 use Rattle.format.specs.Columns.{flagFrom, flagsOf}
 use Rattle.format.specs.Places.{Table}
 use Rattle.format.specs.Located.{nameAt, flagColumn, hasFlag}
+use Rattle.laws.proofs.FlagColumnLaws.{flag-of}
 use Rattle.numbers.specs.Texts.{size, flagText, atRight}
 use Rattle.numbers.proofs.DigitLaws.{every-one}
 use Rattle.numbers.proofs.TextLaws.{number-exactly, flag-whole}
 use Rattle.orders.specs.Corrections.{badNumber, badFlag}
 use Rattle.orders.specs.WrittenTexts.{NumberExactly, FlagExactly}
 use Rattle.orders.proofs.FlagLaws.{flag-judged}
-use Rattle.orders.proofs.ColumnLaws.{flag-of}
 use Rattle.orders.proofs.FitLaws.{number-good}
 
 -- ---- 23

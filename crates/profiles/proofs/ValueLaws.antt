@@ -2,16 +2,15 @@
 use Prim.Native.Nat.{ℕ, _+_, _-_, _/_, _%_, _≤_, _<_}
 use mathlib.Core.Path.{_≡_, refl, sym, ap, subst, _∙_}
 use mathlib.Core.List.{List, [], _∷_}
-use mathlib.Core.Bool.{Bool, true, false, cond, not, _&&_, _||_, true≢false}
+use mathlib.Core.Bool.{Bool, true, false, cond, not, _||_, true≢false}
 use native.Mathlib.Omega.{arith}
 use lib.ListN.{length, getD, length-drop}
-use lib.Dec.{eqb, leb, ltb}
-use borrow.Author.Tests.{lt-ltb, le-ltb, ltb-true}
+use lib.Dec.{eqb}
+use borrow.Author.Tests.{lt-ltb, le-ltb}
 use Rattle.bytes.specs.declared.Span.{Span}
 use Rattle.verdicts.specs.declared.Judged.{Judged}
 use Rattle.bytes.specs.Bytes.{equal}
 use Rattle.bytes.specs.Cells.{cellAt, lineAt, cellEnd}
-use Rattle.bytes.specs.Names.{isName}
 use Rattle.verdicts.specs.Verdicts.{Verdict, blank, wrong, outOfRange, good}
 use Rattle.verdicts.specs.Kinds.{kindOf}
 use Rattle.verdicts.specs.Judge.{judge, judgedOf, judgedAt}
@@ -19,21 +18,22 @@ use Rattle.bytes.proofs.CellLaws.{stop-moved}
 use Rattle.verdicts.proofs.JudgeLaws.{judged-stop}
 use Rattle.format.specs.declared.CastTime.the-variants.{Given, Missing}
 use Rattle.profiles.specs.declared.values.ValueAt.{ValueAt}
-use Rattle.format.specs.Faults.{clean, unless, placeIn}
-use Rattle.format.specs.Headers.{Header, headerOf, rawName, nameOf, valueOf, headerNameRule}
+use Rattle.format.specs.Faults.{placeIn}
+use Rattle.format.specs.Headers.{Header, headerOf, rawName, nameOf, valueOf}
 use Rattle.format.specs.Columns.{namesOf}
 use Rattle.format.specs.Inner.Grid.{cellSpan}
 use Rattle.format.specs.Records.{Value, given, absent, headerPlace, headerValue, numberIn, timeIn, castTime}
 use Rattle.format.specs.Inner.Names.{textIn}
 use Rattle.headers.specs.Inner.Headers.{Parted}
 use Rattle.format.specs.Inner.Heads.{LineStands, HeaderLines, none, more}
-use Rattle.columns.specs.Inner.NamesLine.{columnInLine}
-use Rattle.columns.proofs.AskedLaws.{column-found, column-lacking}
+use Rattle.format.specs.NamesLine.{columnInLine}
+use Rattle.format.proofs.NamesLineLaws.{column-found, column-lacking}
 use Rattle.format.specs.Inner.Rows.{lineCells}
 use Rattle.profiles.specs.Inner.Values.{ValueRead, ColumnsStand, valueIn}
 use Rattle.headers.proofs.HeaderLaws.{part-name, value-cell, value-stop}
-use Rattle.format.proofs.FaultLaws.{breaks-clean}
 use Rattle.format.proofs.GridLaws.{SpanAt, span-at}
+use Rattle.format.proofs.HeadLaws.{equals-inside}
+use Rattle.format.proofs.OpenedLaws.{headers-order}
 use Rattle.format.proofs.RunLaws.{line-short}
 use Rattle.format.proofs.VerdictLaws.{size-anywhere}
 
@@ -53,19 +53,6 @@ none-read s x r h e =
     record { none = λ y. e; some = λ y. absurd (z y); stop = λ y. absurd (z y); room = λ y. absurd (z y) }
 
 -- ---- the headers, one after the other
-headers-order : {s : List ℕ} {end i l : ℕ} {hs : List Header} → HeaderLines s end i l hs → i ≤ end
-headers-order none = omega arith
-headers-order (more p a b h) = omega (arith, headers-order h)
-
--- a header line has an =
-equals-inside : (x : List ℕ) → headerNameRule x ≡ clean → length (rawName x) < length x
-unfolding headerNameRule
-equals-inside x e = go (ltb (length (rawName x)) (length x)) refl e
-  where
-    go : (b : Bool) → ltb (length (rawName x)) (length x) ≡ b → unless (b && leb (length (nameOf x)) 64 && isName (nameOf x)) 8 1 ≡ clean → length (rawName x) < length x
-    go true h k = ltb-true (length (rawName x)) (length x) h
-    go false h k = absurd (breaks-clean 8 1 k)
-
 pub record HeaderFirst (s : List ℕ) (end i l : ℕ) (hs : List Header) : Type 0 where
   pub parted : Parted s i (i + length (rawName (lineAt s i))) (i + length (lineAt s i))
   pub stands : LineStands s l i

@@ -17,10 +17,10 @@ lineStart s i k = cond (ltb k (length (pieces lineFeed (drop i s)))) (i + starts
 abbrev pub cellSpan : List ℕ → ℕ → ℕ → Span
 cellSpan s i k = spanIn i (pieces comma (lineAt s i)) k
 
--- how many line feeds a list has
-unfoldable pub feedsIn : List ℕ → ℕ
-feedsIn [] = 0
-feedsIn (x ∷ xs) = cond (eqb x 10) 1 0 + feedsIn xs
+-- how many of a list's bytes are b
+unfoldable pub countOf : ℕ → List ℕ → ℕ
+countOf b [] = 0
+countOf b (x ∷ xs) = cond (eqb x b) 1 0 + countOf b xs
 
 -- how many bytes go up to and with its k-th line feed, all where it has fewer
 unfoldable pub skip : ℕ → List ℕ → ℕ

@@ -1,80 +1,88 @@
 -- The loop's invariant: `left` cells on from i as `column` from the start.
-use Prim.Native.Nat.{ℕ, _+_, _-_}
-use mathlib.Core.Path.{_≡_, refl, sym, _∙_, ap, subst}
+use Prim.Native.Nat.{_+_, _-_, _≤_, _<_}
+use mathlib.Core.Path.{_≡_, sym, _∙_, ap}
+use mathlib.Core.Logic.{⊎-elim}
 use native.Mathlib.Omega.{arith}
-use lib.ListN.{getD}
+use lib.ListN.{length}
 use borrow.Author.Needs.{needs}
-use Rattle.bytes.proofs.CellLaws.{cellEnd-from}
 use Rattle.format.specs.Inner.Grid.{cellSpan}
-use Rattle.format.proofs.GridWalkLaws.{span-own, span-ended, span-fed, span-next}
+use Rattle.format.proofs.CellWalkLaws.{cell-past, cell-fed, cell-comma, cell-other}
 use Rattle.grid.proofs.cell_span.Statement.{statement}
 use Rattle.grid.proofs.cell_span.Tie as tie
 
 abbrev Inv-loop : tie.InvT-loop
-Inv-loop s at column i₀ left₀ i left = cellSpan s at column ≡ cellSpan s i left
+Inv-loop s at column i₀ left₀ i left = (1 ≤ left) × (cellSpan s at column ≡ cellSpan s i left)
 
 abbrev μ-loop : tie.MeasureT-loop
-μ-loop s at column i₀ left₀ i left = left
+μ-loop s at column i₀ left₀ i left = length s - i
 
-loop-holds : tie.Need-loop-holds Inv-loop μ-loop
-loop-holds c = refl
-
-cell-end-requires : tie.Need-cell-end-requires Inv-loop μ-loop
-cell-end-requires c κs = search needs
+first-span-requires : tie.Need-first-span-requires Inv-loop μ-loop
+first-span-requires c κs = search needs
 
 returns : tie.Need-returns Inv-loop μ-loop
-returns c =
-    let q = c .before in
-    let l = q .before .before in
-    let s = l .before .before .args .s .now in
-    let n : l .loop .left ≡ l .loop .left - 1 + 1 = omega arith in
-    sym (l .loop .inv ∙ ap (cellSpan s (l .loop .i)) n ∙ span-ended s (l .loop .i) (l .loop .left - 1) (omega (arith, q .cell-end .ensures, c .if1 .taken)))
-
-shared-slice-read-if2 : tie.Need-shared-slice-read-if2 Inv-loop μ-loop
-shared-slice-read-if2 c = search needs
+returns c = let a = c .before .before .before .args in c .first-span .ensures ∙ ap (cellSpan (a .s .now) (a .at)) (sym (c .before .if1 .taken))
 
 returns-2 : tie.Need-returns-2 Inv-loop μ-loop
-returns-2 c =
-    let q = c .before .before .before in
-    let l = q .before .before in
-    let s = l .before .before .args .s .now in
-    let n : l .loop .left ≡ l .loop .left - 1 + 1 = omega arith in
-    sym (l .loop .inv ∙ ap (cellSpan s (l .loop .i)) n ∙ span-fed s (l .loop .i) (l .loop .left - 1) (subst (λ (x : ℕ). getD s x 0 ≡ 10) (q .cell-end .ensures) (c .if2 .taken)))
+returns-2 c = sym (cell-past _ _ _ (omega arith) (omega arith))
 
-add-i : tie.Need-add-i Inv-loop μ-loop
-add-i c = search needs
+past-cells-requires : tie.Need-past-cells-requires Inv-loop μ-loop
+past-cells-requires c κs = (omega arith, omega arith, omega arith)
+
+past-cells-requires-2 : tie.Need-past-cells-requires-2 Inv-loop μ-loop
+past-cells-requires-2 c κs = (c .past-cells .ensures .0, c .past-cells .ensures .1, omega arith)
+
+loop-holds : tie.Need-loop-holds Inv-loop μ-loop
+loop-holds c = (c .past-cells2 .ensures .1, c .before .past-cells .ensures .2 ∙ c .past-cells2 .ensures .2)
+
+shared-slice-read-if3 : tie.Need-shared-slice-read-if3 Inv-loop μ-loop
+shared-slice-read-if3 c = search needs
+
+returns-3 : tie.Need-returns-3 Inv-loop μ-loop
+returns-3 c = let l = c .before .before .before in sym (l .loop .inv .1 ∙ cell-fed _ _ (omega arith) _ (c .if3 .taken) (omega arith))
+
+shared-slice-read-if4 : tie.Need-shared-slice-read-if4 Inv-loop μ-loop
+shared-slice-read-if4 c = search needs
+
+add-first-span : tie.Need-add-first-span Inv-loop μ-loop
+add-first-span c = search needs
+
+first-span-requires-2 : tie.Need-first-span-requires-2 Inv-loop μ-loop
+first-span-requires-2 c κs = search needs
+
+returns-4 : tie.Need-returns-4 Inv-loop μ-loop
+returns-4 c =
+    let t = c .before in
+    let l = t .before .before .before .before .before .before in
+    let s = l .before .before .before .before .before .before .args .s .now in
+    let e : 0 ≡ l .loop .left - 1 = omega (arith, t .if5 .taken) in
+    c .first-span2 .ensures
+    ∙ ap (cellSpan s (l .loop .i + 1)) e
+    ∙ sym (l .loop .inv .1 ∙ cell-comma s (l .loop .i) (omega arith) (l .loop .left) (t .before .if4 .taken) (omega arith))
 
 sub-left : tie.Need-sub-left Inv-loop μ-loop
 sub-left c = search needs
+
+add-i : tie.Need-add-i Inv-loop μ-loop
+add-i c = search needs
 
 loop-less : tie.Need-loop-less Inv-loop μ-loop
 loop-less c = search needs
 
 loop-again : tie.Need-loop-again Inv-loop μ-loop
 loop-again c =
-    let q = c .before .before .before in
-    let l = q .before .before in
-    let s = l .before .before .args .s .now in
-    let n : l .loop .left ≡ l .loop .left - 1 + 1 = omega arith in
-    let e = q .cell-end .ensures in
-    l .loop .inv ∙ ap (cellSpan s (l .loop .i)) n
-    ∙ span-next s (l .loop .i) (l .loop .left - 1) (omega (arith, e, c .before .before .if1 .left)) (subst (λ (x : ℕ). getD s x 0 ≡ 10 → ⊥) e (c .if2 .left))
-    ∙ ap (λ (x : ℕ). cellSpan s (x + 1) (l .loop .left - 1)) (sym e)
+    let l = c .before .before .before .before .before in
+    let s = l .before .before .before .before .before .before .args .s .now in
+    let i = l .loop .i in
+    let h : i < length s = omega arith in
+    let g : (1 ≤ c .if4 .left) × (cellSpan s i (l .loop .left) ≡ cellSpan s (i + 1) (c .if4 .left)) =
+    ⊎-elim
+    (λ w. (omega (arith, l .loop .inv .0, w .1 .left, w .2), cell-comma s i h (l .loop .left) (w .0 .taken) (l .loop .inv .0) ∙ ap (cellSpan s (i + 1)) (sym (w .2))))
+    (λ w. (omega (arith, l .loop .inv .0, w .1), cell-other s i h (l .loop .left) (c .before .before .if3 .left) (w .0 .left) (l .loop .inv .0) ∙ ap (cellSpan s (i + 1)) (sym (w .1))))
+    (c .if4 .came) in
+    (g .0, l .loop .inv .1 ∙ g .1)
 
-cell-end-requires-2 : tie.Need-cell-end-requires-2 Inv-loop μ-loop
-cell-end-requires-2 c κs = search needs
-
-sub-t12 : tie.Need-sub-t12 Inv-loop μ-loop
-sub-t12 c =
-    let l = c .before .before in
-    omega (arith, c .cell-end2 .ensures, cellEnd-from 44 (l .before .before .args .s .now) (l .loop .i))
-
-returns-3 : tie.Need-returns-3 Inv-loop μ-loop
-returns-3 c =
-    let l = c .before .before in
-    let s = l .before .before .args .s .now in
-    let n : l .loop .left ≡ 0 = omega (arith, c .before .loop-test .left) in
-    sym (l .loop .inv ∙ ap (cellSpan s (l .loop .i)) n ∙ span-own s (l .loop .i) (c .cell-end2 .result) (c .cell-end2 .ensures))
+returns-5 : tie.Need-returns-5 Inv-loop μ-loop
+returns-5 c = let l = c .before in sym (l .loop .inv .1 ∙ cell-past _ _ _ (c .loop-test .left) (omega arith))
 
 pub cell-span-spec : {M : Type 1} → statement M
 cell-span-spec =
@@ -82,15 +90,20 @@ cell-span-spec =
     (tie.spec
     Inv-loop
     μ-loop
-    loop-holds
-    cell-end-requires
+    first-span-requires
     returns
-    shared-slice-read-if2
     returns-2
-    add-i
+    past-cells-requires
+    past-cells-requires-2
+    loop-holds
+    shared-slice-read-if3
+    returns-3
+    shared-slice-read-if4
+    add-first-span
+    first-span-requires-2
+    returns-4
     sub-left
+    add-i
     loop-less
     loop-again
-    cell-end-requires-2
-    sub-t12
-    returns-3)
+    returns-5)

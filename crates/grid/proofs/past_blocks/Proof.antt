@@ -21,8 +21,8 @@ loop-holds c = (search needs, search needs, refl)
 sub-loop : tie.Need-sub-loop Inv-loop μ-loop
 sub-loop c = search needs
 
-feeds-in-32-requires : tie.Need-feeds-in-32-requires Inv-loop μ-loop
-feeds-in-32-requires c κs = omega arith
+count-in-requires : tie.Need-count-in-requires Inv-loop μ-loop
+count-in-requires c κs = omega arith
 
 returns : tie.Need-returns Inv-loop μ-loop
 returns c = (search needs, search needs, c .before .before .before .loop .inv .2)
@@ -37,7 +37,7 @@ loop-less : tie.Need-loop-less Inv-loop μ-loop
 loop-less c = search needs
 
 loop-again : tie.Need-loop-again Inv-loop μ-loop
-loop-again c = (omega arith, omega arith, c .before .before .before .loop .inv .2 ∙ skipped-block _ _ _ _ (omega arith) (c .before .feeds-in-32 .ensures) (omega arith))
+loop-again c = (omega arith, omega arith, c .before .before .before .loop .inv .2 ∙ skipped-block _ _ _ _ (omega arith) (c .before .count-in .ensures) (omega arith))
 
 returns-2 : tie.Need-returns-2 Inv-loop μ-loop
 returns-2 c = (search needs, search needs, c .before .loop .inv .2)
@@ -50,7 +50,7 @@ past-blocks-spec =
     μ-loop
     loop-holds
     sub-loop
-    feeds-in-32-requires
+    count-in-requires
     returns
     sub-left
     add-at

@@ -1,7 +1,7 @@
 use native.Mathlib.Omega.{arith}
 use borrow.Author.Tests.{eq-eqb, ne-eqb}
-use Rattle.grid.proofs.is_feed.Statement.{statement}
-use Rattle.grid.proofs.is_feed.Tie as tie
+use Rattle.grid.proofs.is_byte.Statement.{statement}
+use Rattle.grid.proofs.is_byte.Tie as tie
 
 returns : tie.Need-returns
 returns c = (rw (eq-eqb _ _ (c .if1 .taken)), omega arith)
@@ -9,5 +9,5 @@ returns c = (rw (eq-eqb _ _ (c .if1 .taken)), omega arith)
 returns-2 : tie.Need-returns-2
 returns-2 c = (rw (ne-eqb _ _ (c .if1 .left)), omega arith)
 
-pub is-feed-spec : {M : Type 1} → statement M
-is-feed-spec = tie.close (tie.spec returns returns-2)
+pub is-byte-spec : {M : Type 1} → statement M
+is-byte-spec = tie.close (tie.spec returns returns-2)
