@@ -1,0 +1,4 @@
+pub mod FillLaws
+pub mod OpeningLaws
+pub mod FillingLaws
+pub mod PromiseLaws
