@@ -1,1 +1,4 @@
 pub mod ReportLaws
+pub mod RowLengthLaws
+pub mod LineLengthLaws
+pub mod FitLaws

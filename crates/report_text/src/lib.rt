@@ -1,7 +1,10 @@
 // The text of the report on a file, laid out in room that the caller lends.
 ghost use mathlib.Core.Path.{_≡_};
+ghost use mathlib.Core.List.{_++_};
+ghost use lib.ListN.{length, take, drop};
 ghost use Rattle.pages.specs.Pages.{page, lay};
 ghost use Rattle.report_text.specs.Report.{reportOf};
+ghost use Rattle.report_text.specs.Promises.{ReadSays};
 use crate::lines::put_accepted;
 use crate::lines::put_profiles;
 use crate::lines::put_refused;
@@ -12,7 +15,13 @@ mod lines;
 // The most bytes of a file that is reported on.
 const MOST_BYTES: usize = 65536;
 
-// Puts the report on a file at the start of the room. 163,840 bytes are room for every report.
+// The most bytes of a file that are read: one more, so that a longer file shows.
+pub const INPUT_BYTES: usize = 65537;
+
+// A page that every report fits.
+pub const PAGE_BYTES: usize = 163840;
+
+// Puts the report on a file at the start of the room, as far as that goes.
 pub fn report(file: &[u8], room: &mut [u8]) -> usize
     ensures { λ r. ⌜ page (now (room .exit)) r ≡ lay (page (now (room .entry)) 0) (reportOf (now (file .entry))) ⌝ }
 {
@@ -25,4 +34,24 @@ pub fn report(file: &[u8], room: &mut [u8]) -> usize
     }
     let at = put_accepted(room, c);
     put_profiles(file, c.profiles, room, at)
+}
+
+// The report on the first n bytes of the input; on all of them where there are no more than n.
+fn report_first(input: &[u8], n: usize, room: &mut [u8]) -> usize
+    ensures { λ r. ⌜ page (now (room .exit)) r ≡ lay (page (now (room .entry)) 0) (reportOf (take n (now (input .entry)))) ⌝ }
+{
+    if n < input.len() {
+        return report(&input[..n], room);
+    }
+    report(input, room)
+}
+
+// Puts the report on the first n bytes of the input at the start of the page and answers its length. Where they were read from a file, it is the report on that
+// file, however long that is.
+pub fn report_page(input: &[u8; INPUT_BYTES], n: usize, room: &mut [u8; PAGE_BYTES]) -> usize
+    ensures { λ r. ⌜ r ≡ length (reportOf (take n (now (input .entry)))) ⌝ }
+    ensures { λ r. ⌜ now (room .exit) ≡ reportOf (take n (now (input .entry))) ++ drop r (now (room .entry)) ⌝ }
+    ensures { λ r. ⌜ ReadSays (now (input .entry)) n ⌝ }
+{
+    report_first(input, n, room)
 }

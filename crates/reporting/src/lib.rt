@@ -1,0 +1,14 @@
+// The report program: reads a file, puts the report on it on a page and writes the page.
+use libc::STDIN_FILENO;
+use libc::STDOUT_FILENO;
+use report_text::INPUT_BYTES;
+use report_text::PAGE_BYTES;
+
+// Writes the report on the file on standard input to standard output.
+pub fn report_input() {
+    let mut input = [0u8; INPUT_BYTES];
+    let mut page = [0u8; PAGE_BYTES];
+    let n = io::read_full(STDIN_FILENO, &mut input);
+    let length = report_text::report_page(&input, n, &mut page);
+    io::write_all(STDOUT_FILENO, &page[..length]);
+}
