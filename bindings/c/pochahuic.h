@@ -1,15 +1,17 @@
 /* Pochahuic for C: the proved calls of a WHP-Exchange file, on numbers and bytes.
  *
- * Link target/staticlib/libpochahuic.a (x86-64 Linux), which `rt staticlib pochahuic` writes. Nothing is allocated, nothing is kept between calls, and
+ * Link target/libpochahuic.a (x86-64 Linux), which `bash bindings/archive` writes. Nothing is allocated, nothing is kept between calls, and
  * calls may be made from several threads at once as long as no two of them share a lent array or a file that one of them corrects.
  *
  * Every call on a file checks the whole file first. What each call answers is proved for every file and every number; what it asks of the caller is C's own:
- * - file and length: that many bytes that can be read (written, for pochahuic_correct), no null pointer even where the length is 0;
- * - out, millionths, value: arrays and numbers of exactly the sizes shown, which can be written and which share no byte with each other or with the file.
- * All of out, millionths and value are written at every call; what they held before has no meaning.
+ * - file, name and their lengths: that many bytes that can be read (written, for pochahuic_correct), no null pointer even where the length is 0;
+ * - out, millionths, value: arrays and numbers of exactly the sizes shown, which can be written and which share no byte with each other or with the file;
+ * - tables (of pochahuic_column_values and pochahuic_column_flags): that many entries, likewise, no null pointer even where the length is 0.
+ * All of out, *millionths and *value are written at every call; what they held before has no meaning. Of a table only the entries of the rows are written, and
+ * none where the call is refused.
  *
- * Lines, columns, rows and profiles count from 1; starts of parts count bytes from 0 at the file's start.
- * out[0], out[1], out[2] are the refusal number, the line and the byte column of what is refused: 0 each where nothing is, line and column 0 for 21 to 26.
+ * Lines, columns, rows, profiles and headers count from 1; starts of parts count bytes from 0 at the file's start.
+ * out[0], out[1], out[2] are the refusal number, the line and the byte column of what is refused: 0 each where nothing is, line and column 0 from 21 on.
  * A call answers out[0] again, but for pochahuic_decimal, whose answer says which reading it is.
  */
 #ifndef POCHAHUIC_H
@@ -25,7 +27,7 @@ extern "C" {
 /* The kind of a file, out[3] of pochahuic_check. */
 enum { POCHAHUIC_NO_KIND = 0, POCHAHUIC_BOTTLE = 1, POCHAHUIC_CTD = 2 };
 
-/* The answer of pochahuic_decimal. */
+/* The answer of pochahuic_decimal; the first two are the cases of pochahuic_column_values too. */
 enum { POCHAHUIC_PRESENT = 0, POCHAHUIC_MISSING = 1, POCHAHUIC_REFUSED = 2 };
 
 /* Checks a file.
@@ -60,6 +62,31 @@ uint64_t pochahuic_correct(uint8_t *file, size_t length, uint64_t row, uint64_t 
  * out[0]: 0 or 26; [1] row; [2] and [3] start and length of the name in the line; [4] decimals as written; [5] flag; *millionths the value. All 0 where refused. */
 uint64_t pochahuic_list_line(const uint8_t *line, size_t length, int64_t *millionths, uint64_t out[6]);
 
+/* Checks a file and says where its parts start. out[3] to [7]: as pochahuic_check; [8] the start of its headers, or of its names line where there are none, as
+ * in a bottle file; [9] of its names line; [10] of its first data line. All 0 where refused. */
+uint64_t pochahuic_open(const uint8_t *file, size_t length, uint64_t out[11]);
+
+/* The number of the column of a name, out[3]; the name is compared as it is. 21 where no column has it, and then out[3] is 0. */
+uint64_t pochahuic_column_named(const uint8_t *file, size_t length, const uint8_t *name, size_t name_length, uint64_t out[4]);
+
+/* The name of a column, and its unit, which may be empty, both without the spaces at their ends: the out[4] bytes of the file from out[3] on. Both 0 where
+ * refused. */
+uint64_t pochahuic_name(const uint8_t *file, size_t length, uint64_t column, uint64_t out[5]);
+uint64_t pochahuic_unit(const uint8_t *file, size_t length, uint64_t column, uint64_t out[5]);
+
+/* Header k of a CTD file, NUMBER_HEADERS being header 1: its name is the out[4] bytes of the file from out[3] on, its value the out[6] bytes from out[5] on,
+ * both without the spaces at their ends. All 0 where refused; 21 where there is no such header, so always in a bottle file. */
+uint64_t pochahuic_header(const uint8_t *file, size_t length, uint64_t k, uint64_t out[7]);
+
+/* Reads a whole decimal column, as pochahuic_decimal reads each row of it: entry r - 1 of the three tables is row r's. cases: POCHAHUIC_PRESENT or
+ * POCHAHUIC_MISSING; millionths and values: the value, or 0 where it is missing. out[3]: the rows, or 0 where refused.
+ * 22 where it is no measured, LATITUDE, LONGITUDE or DEPTH column, then 29 where a table has fewer entries than the file has rows. */
+uint64_t pochahuic_column_values(const uint8_t *file, size_t length, uint64_t column, uint8_t *cases, size_t cases_length, int64_t *millionths,
+                                 size_t millionths_length, double *values, size_t values_length, uint64_t out[4]);
+
+/* Reads a whole flag column, which is the column given, likewise: entry r - 1 is row r's flag, 1 to 9. out[3]: the rows, or 0 where refused. */
+uint64_t pochahuic_column_flags(const uint8_t *file, size_t length, uint64_t column, uint8_t *flags, size_t flags_length, uint64_t out[4]);
+
 /* What a refusal number says, in one sentence; of every other number, 0 too, the empty text. */
 static inline const char *pochahuic_message(uint64_t number)
 {
@@ -85,12 +112,15 @@ static inline const char *pochahuic_message(uint64_t number)
         "a value out of its range, or a flag that is not in the set",                /* 18 */
         "END_DATA with no data line before it",                                      /* 19 */
         "more than 1,000,000 data lines",                                            /* 20 */
-        "no such row, column, profile or name",                                      /* 21 */
+        "no such row, column, profile, header or name",                              /* 21 */
         "the column is not of the kind that is read or corrected",                   /* 22 */
         "more than 6 decimals, a size of 10^9 or more, or not exact in the decimals", /* 23 */
         "a flag that is not in the set, or not 0 where there is no flag column",     /* 24 */
         "the text is longer than its cell",                                          /* 25 */
         "a malformed line of a correction list",                                     /* 26 */
+        "",                                                                          /* 27 */
+        "",                                                                          /* 28 */
+        "a lent table is too short for the rows",                                    /* 29 */
     };
     return number < sizeof messages / sizeof messages[0] ? messages[number] : "";
 }

@@ -1,4 +1,4 @@
-"""Reads an exchange file: its counts, profiles and salinities, two corrections, and a refusal with its line and column."""
+"""Reads an exchange file by the names of its columns: its counts, profiles and salinities, corrections, and a refusal with its line and column."""
 
 import sys
 
@@ -6,15 +6,16 @@ import pochahuic
 
 
 def correct(file, line):
+    """Makes the correction of one list line, in the column that the line names."""
     order = pochahuic.read_list_line(line)
-    column = file.column(order.name)
     try:
+        column = file.column(order.name)
         file.correct(order.row, column, order.millionths, order.decimals, order.flag)
     except pochahuic.Refused as refused:
         print("not corrected: %s" % refused)
         return
-    flag = file.flag(order.row, file.column(order.name + "_FLAG_W"))
-    print("corrected: row %d, %s %.4f flag %d" % (order.row, order.name, file.decimal(order.row, column), flag))
+    flag = " flag %d" % file.flags(order.name)[order.row - 1] if order.name + "_FLAG_W" in file.names() else ""
+    print("corrected: row %d, %s %.4f%s" % (order.row, order.name, file.decimal(order.row, column), flag))
 
 
 def main(path):
@@ -31,10 +32,12 @@ def main(path):
         print("profile %d: rows %d to %d, %s, CASTNO %d, DATE %08d, time %s" % (k, profile.first, last, keys, profile.castno, profile.date, time))
 
     salinity = file.column("SALNTY")
-    for row in range(1, checked.rows + 1):
-        value = file.decimal(row, salinity)
-        print("SALNTY: %s flag %d" % (value if value is None else "%.4f" % value, file.flag(row, file.column("SALNTY_FLAG_W"))))
+    print("SALNTY: column %d, unit %s, flags in column %d" % (salinity, file.unit(salinity), file.column("SALNTY_FLAG_W")))
+    for value, flag in zip(file.values("SALNTY"), file.flags("SALNTY")):
+        print("SALNTY: %s flag %d" % (value if value is None else "%.4f" % value, flag))
     correct(file, b"2\tSALNTY\t35.1301\t2\n")
+    correct(file, b"3\tCTDPRS\t10.8\t0\n")
+    correct(file, b"1\tSALNT\t35.1301\t2\n")
     correct(file, b"1\tSALNTY\t-999.0000\t9\n")
 
     # a blank salinity is refused, with its place

@@ -2,16 +2,20 @@
 
     import pochahuic
     file = pochahuic.File(open("a_hy1.csv", "rb").read())      # raises Refused where the file is refused
-    file.decimal(2, file.column("SALNTY"))                      # a float, or None where the reading is missing; never NaN
-    file.correct(2, 8, 35_130_100, decimals=4, flag=2)
+    file.values("SALNTY")                                       # a list of floats, None where a reading is missing; never NaN
+    file.flags("SALNTY")                                        # its flags, from the column SALNTY_FLAG_W
+    file.column("SALNTY")                                       # the number of the column, for the calls on single cells
+    file.decimal(2, file.column("SALNTY"))
+    file.correct(2, file.column("SALNTY"), 35_130_100, decimals=4, flag=2)
     open("b_hy1.csv", "wb").write(file.bytes())
 
-Rows, columns and profiles count from 1.
+Rows, columns, profiles and headers count from 1. Every call checks the whole file first.
 """
 
 import ctypes
 import operator
 import os
+from array import array
 from collections import namedtuple
 
 MESSAGES = [
@@ -36,12 +40,15 @@ MESSAGES = [
     "a value out of its range, or a flag that is not in the set",
     "END_DATA with no data line before it",
     "more than 1,000,000 data lines",
-    "no such row, column, profile or name",
+    "no such row, column, profile, header or name",
     "the column is not of the kind that is read or corrected",
     "more than 6 decimals, a size of 10^9 or more, or not exact in the decimals",
     "a flag that is not in the set, or not 0 where there is no flag column",
     "the text is longer than its cell",
     "a malformed line of a correction list",
+    "",
+    "",
+    "a lent table is too short for the rows",
 ]
 
 _number, _bytes, _length = ctypes.c_uint64, ctypes.c_void_p, ctypes.c_size_t
@@ -61,6 +68,13 @@ def _load():
         "station": [_bytes, _length, _number, _bytes, _length, _out],
         "correct": [_bytes, _length, _number, _number, ctypes.c_int64, _number, _number, _out],
         "list_line": [_bytes, _length, _millionths, _out],
+        "open": [_bytes, _length, _out],
+        "column_named": [_bytes, _length, _bytes, _length, _out],
+        "name": [_bytes, _length, _number, _out],
+        "unit": [_bytes, _length, _number, _out],
+        "header": [_bytes, _length, _number, _out],
+        "column_values": [_bytes, _length, _number, _bytes, _length, _bytes, _length, _bytes, _length, _out],
+        "column_flags": [_bytes, _length, _number, _bytes, _length, _out],
     }.items():
         call = getattr(library, "pochahuic_" + name)
         call.argtypes, call.restype = arguments, ctypes.c_uint64
@@ -82,11 +96,25 @@ class Refused(Exception):
 Checked = namedtuple("Checked", "kind columns rows profiles missing")
 Profile = namedtuple("Profile", "first rows castno date time")
 Correction = namedtuple("Correction", "row name millionths decimals flag")
+Opened = namedtuple("Opened", "checked headers names first")
+Tables = namedtuple("Tables", "cases millionths values")
+
+# The cases of a table of readings.
+PRESENT, MISSING = 0, 1
+
+
+def _checked(kind, *counts):
+    return Checked({1: "BOTTLE", 2: "CTD"}[kind], *counts)
 
 
 def _lent(data):
     """The bytes in memory of their own: one byte more than there are, so that the pointer is good for an empty text too."""
     return ctypes.create_string_buffer(data, len(data) + 1)
+
+
+def _table(code, rows):
+    """An array of a zero for each row, of the numbers that the letter stands for."""
+    return array(code, [0]) * rows
 
 
 def _within(least, below, *numbers):
@@ -121,8 +149,7 @@ class File:
 
     def check(self):
         """The kind, "BOTTLE" or "CTD", and the counts."""
-        kind, *counts = self._call("check", 8)
-        return Checked({1: "BOTTLE", 2: "CTD"}[kind], *counts)
+        return _checked(*self._call("check", 8))
 
     def cell(self, row, column):
         """The bytes of a cell, without the spaces at its ends."""
@@ -168,18 +195,71 @@ class File:
         """Makes one correction; a refused one changes nothing."""
         self._call("correct", 3, *_unsigned(row, column), *_within(-(2**63), 2**63, millionths), *_unsigned(decimals, flag))
 
-    def names(self):
-        """The column names, from the names line, which stands two lines above row 1."""
-        data = self.bytes()
-        above = data.count(b"\n", 0, self.place(1, 1)[0])
-        return [name.strip(b" ").decode() for name in data.split(b"\n")[above - 2].split(b",")]
+    def open(self):
+        """The check's answer, and where the headers, the names line and the first data line start; the first two are the same where there are no headers."""
+        *counts, headers, names, first = self._call("open", 11)
+        return Opened(_checked(*counts), headers, names, first)
 
     def column(self, name):
-        """The number of the column of that name."""
-        names = self.names()
-        if name not in names:
-            raise Refused(21, 0, 0)
-        return names.index(name) + 1
+        """The number of the column of that name, which is compared as it is; Refused with 21 where there is none."""
+        name = name.encode()
+        return self._call("column_named", 4, _lent(name), len(name))[0]
+
+    def name(self, column):
+        """The name of a column."""
+        return self._part(*self._call("name", 5, *_unsigned(column))).decode()
+
+    def unit(self, column):
+        """The unit of a column; it may be empty."""
+        return self._part(*self._call("unit", 5, *_unsigned(column))).decode()
+
+    def header(self, k):
+        """The name and the value of header k of a CTD file; header 1 is NUMBER_HEADERS. A bottle file has none: Refused with 21."""
+        start, length, value_start, value_length = self._call("header", 7, *_unsigned(k))
+        return self._part(start, length).decode(), self._part(value_start, value_length).decode()
+
+    def names(self):
+        """The names of all columns, in order; one call for each."""
+        return [self.name(column) for column in range(1, self.check().columns + 1)]
+
+    def units(self):
+        """The units of all columns, in order; one call for each."""
+        return [self.unit(column) for column in range(1, self.check().columns + 1)]
+
+    def headers(self):
+        """The headers of a CTD file, the values by their names, in order; empty for a bottle file."""
+        if self.check().kind != "CTD":
+            return {}
+        count = int(self.header(1)[1])
+        return dict(self.header(k) for k in range(1, count + 1))
+
+    def values(self, column):
+        """The readings of a whole column, by its name or number: a float for each row, None where it is missing."""
+        tables = self.tables(column)
+        return [value if case == PRESENT else None for case, value in zip(tables.cases, tables.values)]
+
+    def exact_values(self, column):
+        """The same in millionths, exactly."""
+        tables = self.tables(column)
+        return [number if case == PRESENT else None for case, number in zip(tables.cases, tables.millionths)]
+
+    def tables(self, column):
+        """The same as three arrays, row 1 first, which numpy.frombuffer takes without a copy: cases (PRESENT or MISSING), millionths, values.
+        Both numbers are 0 where a reading is missing, so look at its case."""
+        column = self.column(column) if isinstance(column, str) else column
+        rows = self.check().rows
+        tables = Tables(_table("B", rows), _table("q", rows), _table("d", rows))
+        cases, millionths, values = (table.buffer_info() for table in tables)
+        self._call("column_values", 4, *_unsigned(column), *cases, *millionths, *values)
+        return tables
+
+    def flags(self, column):
+        """The flags of a whole column, one for each row: by the name of the parameter, whose flags stand in the column NAME_FLAG_W, or by the number
+        of the flag column itself."""
+        column = self.column(column + "_FLAG_W") if isinstance(column, str) else column
+        flags = _table("B", self.check().rows)
+        self._call("column_flags", 4, *_unsigned(column), *flags.buffer_info())
+        return list(flags)
 
 
 def read_list_line(line):

@@ -1,7 +1,12 @@
-//! Answers the requests of the comparison (tests/reader) over the C interface: standard input to standard output. The report is put together from the calls.
+//! Answers the requests of the comparison (tests/reader) over the C interface: standard input to standard output. The report, and what the requests `rows` and
+//! `column` ask, which no call of the C interface hands out, are put together from the calls.
 
-use pochahuic::{Kind, Reading, Refusal};
+use pochahuic::{Checked, Correction, Kind, Reading, Refusal};
 use std::io::{self, BufRead, Write};
+use std::ops::Range;
+
+/// What every entry of a lent table holds before the call.
+const BEFORE: u8 = 77;
 
 /// Longer requests are answered `too long`, and a report on more than so many bytes is.
 const MOST_BYTES: usize = 131_072;
@@ -21,6 +26,25 @@ fn word(kind: Kind) -> &'static str {
     }
 }
 
+fn or_refusal(answer: Result<String, Refusal>) -> String {
+    answer.unwrap_or_else(|Refusal { number, line, column }| {
+        format!("refused {number} {line} {column}")
+    })
+}
+
+fn counts(checked: Checked) -> String {
+    let Checked { kind, columns, rows, profiles, missing } = checked;
+    format!("{} {columns} {rows} {profiles} {missing}", word(kind))
+}
+
+fn part(said: &str, place: Range<usize>) -> String {
+    format!("{said} {} {}", place.start, place.len())
+}
+
+fn cell(file: &[u8], row: u64, column: u64) -> Result<String, Refusal> {
+    Ok(part("cell", pochahuic::cell_place(file, row, column)?))
+}
+
 fn decimal(file: &[u8], row: u64, column: u64) -> Result<String, Refusal> {
     Ok(match pochahuic::decimal(file, row, column)? {
         Reading::Present { millionths, value } => {
@@ -28,6 +52,65 @@ fn decimal(file: &[u8], row: u64, column: u64) -> Result<String, Refusal> {
         }
         Reading::Missing => "missing".to_string(),
     })
+}
+
+fn flag(file: &[u8], row: u64, column: u64) -> Result<String, Refusal> {
+    Ok(format!("flag {}", pochahuic::flag(file, row, column)?))
+}
+
+fn values(file: &[u8], column: u64, entries: [usize; 3]) -> String {
+    let mut cases = vec![BEFORE; entries[0]];
+    let mut millionths = vec![i64::from(BEFORE); entries[1]];
+    let mut values = vec![f64::from(BEFORE); entries[2]];
+    let read =
+        pochahuic::column_values_into(file, column, &mut cases, &mut millionths, &mut values);
+    let mut tables = cases;
+    tables.extend(millionths.iter().flat_map(|number| number.to_le_bytes()));
+    tables.extend(values.iter().flat_map(|value| value.to_le_bytes()));
+    let said = or_refusal(read.map(|rows| format!("values {rows}")));
+    format!("{said} {:08x}", crc(&tables))
+}
+
+fn flags(file: &[u8], column: u64, entries: usize) -> String {
+    let mut flags = vec![BEFORE; entries];
+    let read = pochahuic::column_flags_into(file, column, &mut flags);
+    let said = or_refusal(read.map(|rows| format!("flags {rows}")));
+    format!("{said} {:08x}", crc(&flags))
+}
+
+/// Row by row, the answers to the single requests.
+fn rows(file: &[u8], column: u64) -> Result<String, Refusal> {
+    let count = pochahuic::check(file)?.rows;
+    let mut lines = String::new();
+    for row in 1..=count {
+        for call in [cell, decimal, flag] {
+            lines += &or_refusal(call(file, row, column));
+            lines.push('\n');
+        }
+    }
+    Ok(format!("rows {count} {:08x}", crc(lines.as_bytes())))
+}
+
+/// The kind of a column by its name and by the call that reads its first row, and its flag column by name.
+fn column(file: &[u8], column: u64) -> Result<String, Refusal> {
+    let name = pochahuic::name(file, column)?;
+    let is_decimal = pochahuic::decimal(file, 1, column).is_ok();
+    let is_flag = pochahuic::flag(file, 1, column).is_ok();
+    let kind = match name {
+        b"LATITUDE" => 1,
+        b"LONGITUDE" => 2,
+        b"DEPTH" => 3,
+        _ if is_decimal => 0,
+        _ if is_flag => 4 + u8::from(name.starts_with(b"CTD")),
+        b"EXPOCODE" => 6,
+        b"STNNBR" => 7,
+        b"CASTNO" => 8,
+        b"DATE" => 9,
+        b"TIME" => 10,
+        _ => 11,
+    };
+    let flag_column = pochahuic::column_named(file, &[name, b"_FLAG_W"].concat()).unwrap_or(0);
+    Ok(format!("column {kind} {flag_column}"))
 }
 
 fn profile(file: &[u8], k: u64) -> Result<String, Refusal> {
@@ -43,13 +126,8 @@ fn profile(file: &[u8], k: u64) -> Result<String, Refusal> {
 
 fn accepted(file: &[u8]) -> Result<Vec<u8>, Refusal> {
     let checked = pochahuic::check(file)?;
-    let (kind, profiles) = (word(checked.kind), checked.profiles);
-    let mut printed = format!(
-        "accepted\t{kind}\t{}\t{}\t{profiles}\t{}\n",
-        checked.columns, checked.rows, checked.missing
-    )
-    .into_bytes();
-    for k in 1..=profiles {
+    let mut printed = format!("accepted\t{}\n", counts(checked).replace(' ', "\t")).into_bytes();
+    for k in 1..=checked.profiles {
         let profile = pochahuic::profile(file, k)?;
         printed.extend(format!("profile\t{}\t{}\t", profile.first, profile.rows).bytes());
         printed.extend(pochahuic::station(file, k, b"EXPOCODE")?);
@@ -69,42 +147,39 @@ fn report(file: &[u8]) -> Vec<u8> {
     })
 }
 
-/// The answer to a request: its words but for the length, and its bytes.
-fn answer(words: &[&str], bytes: &mut [u8]) -> Result<String, Refusal> {
+/// The answer to a request: its words but for the lengths, its file or list line, and the name of those that have one.
+fn answer(words: &[&str], bytes: &mut [u8], name: &[u8]) -> Result<String, Refusal> {
     let number = |index: usize| words[index].parse::<u64>().expect("a number");
+    let entries = |index: usize| words[index].parse::<usize>().expect("a table's length");
     Ok(match words[0] {
-        "check" => {
-            let checked = pochahuic::check(bytes)?;
-            let kind = word(checked.kind);
-            format!(
-                "accepted {kind} {} {} {} {}",
-                checked.columns, checked.rows, checked.profiles, checked.missing
-            )
+        "check" => format!("accepted {}", counts(pochahuic::check(bytes)?)),
+        "open" => {
+            let opened = pochahuic::open(bytes)?;
+            let (counts, headers) = (counts(opened.checked), opened.headers);
+            format!("opened {counts} {headers} {} {}", opened.names, opened.first)
         }
-        "cell" => {
-            let place = pochahuic::cell_place(bytes, number(1), number(2))?;
-            format!("cell {} {}", place.start, place.len())
-        }
+        "cell" => cell(bytes, number(1), number(2))?,
         "decimal" => decimal(bytes, number(1), number(2))?,
-        "flag" => format!("flag {}", pochahuic::flag(bytes, number(1), number(2))?),
+        "flag" => flag(bytes, number(1), number(2))?,
         "profile" => profile(bytes, number(1))?,
+        "station" => part("station", pochahuic::station_place(bytes, number(1), name)?),
+        "named" => format!("column {}", pochahuic::column_named(bytes, name)?),
+        "name" => part("name", pochahuic::name_place(bytes, number(1))?),
+        "unit" => part("unit", pochahuic::unit_place(bytes, number(1))?),
+        "header" => {
+            let (name, value) = pochahuic::header_place(bytes, number(1))?;
+            part(&part("header", name), value)
+        }
+        "values" => values(bytes, number(1), [entries(2), entries(3), entries(4)]),
+        "flags" => flags(bytes, number(1), entries(2)),
+        "rows" => rows(bytes, number(1))?,
+        "column" => column(bytes, number(1))?,
         "correct" => {
             let millionths = words[3].parse().expect("a number");
             pochahuic::correct(bytes, number(1), number(2), millionths, number(4), number(5))?;
             format!("applied {:08x}", crc(bytes))
         }
-        "line" => {
-            let line = pochahuic::read_list_line(bytes)?;
-            let start = line.name.as_ptr() as usize - bytes.as_ptr() as usize;
-            format!(
-                "line {} {start} {} {} {} {}",
-                line.row,
-                line.name.len(),
-                line.millionths,
-                line.decimals,
-                line.flag
-            )
-        }
+        "line" => list_line(bytes)?,
         "report" => {
             let printed = report(bytes);
             format!("report {:08x} {}", crc(&printed), printed.len())
@@ -113,21 +188,39 @@ fn answer(words: &[&str], bytes: &mut [u8]) -> Result<String, Refusal> {
     })
 }
 
+fn list_line(bytes: &[u8]) -> Result<String, Refusal> {
+    let Correction { row, name, millionths, decimals, flag } = pochahuic::read_list_line(bytes)?;
+    let start = name.as_ptr() as usize - bytes.as_ptr() as usize;
+    Ok(format!("line {row} {start} {} {millionths} {decimals} {flag}", name.len()))
+}
+
+/// The last word that is left.
+fn length(words: &mut Vec<&str>) -> usize {
+    words.pop().and_then(|word| word.parse().ok()).expect("a length")
+}
+
+/// The bytes of a block, without the line feed after it; none where the request has no such block.
+fn block(input: &mut impl BufRead, length: Option<usize>) -> io::Result<Vec<u8>> {
+    let Some(length) = length else { return Ok(Vec::new()) };
+    let mut bytes = vec![0; length + 1];
+    input.read_exact(&mut bytes)?;
+    bytes.pop();
+    Ok(bytes)
+}
+
 fn main() -> io::Result<()> {
     let (mut input, mut output) = (io::stdin().lock(), io::BufWriter::new(io::stdout().lock()));
     let mut header = String::new();
     while input.read_line(&mut header)? != 0 {
         let mut words: Vec<&str> = header.trim_end().split(' ').collect();
-        let length: usize = words.pop().and_then(|word| word.parse().ok()).expect("a length");
-        let mut bytes = vec![0; length + 1];
-        io::Read::read_exact(&mut input, &mut bytes)?;
-        bytes.pop();
-        let said = if length > MOST_BYTES {
+        let has_name = matches!(words[0], "named" | "station");
+        let name_length = has_name.then(|| length(&mut words));
+        let mut bytes = block(&mut input, Some(length(&mut words)))?;
+        let name = block(&mut input, name_length)?;
+        let said = if bytes.len() + name.len() > MOST_BYTES {
             "too long".to_string()
         } else {
-            answer(&words, &mut bytes).unwrap_or_else(|refusal| {
-                format!("refused {} {} {}", refusal.number, refusal.line, refusal.column)
-            })
+            or_refusal(answer(&words, &mut bytes, &name))
         };
         writeln!(output, "{said}")?;
         header.clear();

@@ -1,27 +1,43 @@
-//! Reads an exchange file: its counts, profiles and salinities, two corrections, and a refusal with its line and column.
+//! Reads an exchange file by the names of its columns: its counts, profiles and salinities, corrections, and a refusal with its line and column.
 
 use pochahuic::{Kind, Reading, Refusal};
 
-const SALNTY: u64 = 8;
-const SALNTY_FLAG_W: u64 = 9;
-
-fn salinity(file: &[u8], row: u64) -> Result<String, Refusal> {
-    let value = match pochahuic::decimal(file, row, SALNTY)? {
-        Reading::Present { value, .. } => format!("{value:.4}"),
-        Reading::Missing => "None".to_string(),
-    };
-    Ok(format!("{value} flag {}", pochahuic::flag(file, row, SALNTY_FLAG_W)?))
+/// The flag column of a parameter.
+fn flag_column(file: &[u8], name: &[u8]) -> Result<u64, Refusal> {
+    pochahuic::column_named(file, &[name, b"_FLAG_W"].concat())
 }
 
-/// Makes the correction of one list line, whose column is SALNTY.
-fn correct(file: &mut [u8], line: &[u8]) -> Result<(), Refusal> {
-    let order = pochahuic::read_list_line(line)?;
-    match pochahuic::correct(file, order.row, SALNTY, order.millionths, order.decimals, order.flag)
-    {
-        Ok(()) => println!("corrected: row {}, SALNTY {}", order.row, salinity(file, order.row)?),
-        Err(refusal) => println!("not corrected: {refusal}"),
+fn shown(reading: Reading) -> String {
+    match reading {
+        Reading::Present { value, .. } => format!("{value:.4}"),
+        Reading::Missing => "None".to_string(),
+    }
+}
+
+/// A column with its unit and its flags, each row on a line.
+fn print_column(file: &[u8], name: &str) -> Result<(), Refusal> {
+    let column = pochahuic::column_named(file, name.as_bytes())?;
+    let flags = flag_column(file, name.as_bytes())?;
+    let unit = String::from_utf8_lossy(pochahuic::unit(file, column)?);
+    println!("{name}: column {column}, unit {unit}, flags in column {flags}");
+    let readings = pochahuic::column_values(file, column)?;
+    for (reading, flag) in readings.into_iter().zip(pochahuic::column_flags(file, flags)?) {
+        println!("{name}: {} flag {flag}", shown(reading));
     }
     Ok(())
+}
+
+/// Makes the correction of one list line, in the column that the line names, and says what stands there then.
+fn correct(file: &mut [u8], line: &[u8]) -> Result<String, Refusal> {
+    let order = pochahuic::read_list_line(line)?;
+    let column = pochahuic::column_named(file, order.name)?;
+    pochahuic::correct(file, order.row, column, order.millionths, order.decimals, order.flag)?;
+    let value = shown(pochahuic::decimal(file, order.row, column)?);
+    let flag = match flag_column(file, order.name) {
+        Ok(flags) => format!(" flag {}", pochahuic::flag(file, order.row, flags)?),
+        Err(_) => String::new(),
+    };
+    Ok(format!("row {}, {} {value}{flag}", order.row, String::from_utf8_lossy(order.name)))
 }
 
 fn print_profile(file: &[u8], k: u64) -> Result<(), Refusal> {
@@ -56,14 +72,20 @@ fn main() -> Result<(), Box<dyn std::error::Error>> {
     for k in 1..=checked.profiles {
         print_profile(&file, k)?;
     }
-    for row in 1..=checked.rows {
-        println!("SALNTY: {}", salinity(&file, row)?);
+    print_column(&file, "SALNTY")?;
+    for line in [
+        "2\tSALNTY\t35.1301\t2\n", "3\tCTDPRS\t10.8\t0\n", "1\tSALNT\t35.1301\t2\n",
+        "1\tSALNTY\t-999.0000\t9\n",
+    ] {
+        match correct(&mut file, line.as_bytes()) {
+            Ok(corrected) => println!("corrected: {corrected}"),
+            Err(refusal) => println!("not corrected: {refusal}"),
+        }
     }
-    correct(&mut file, b"2\tSALNTY\t35.1301\t2\n")?;
-    correct(&mut file, b"1\tSALNTY\t-999.0000\t9\n")?;
 
     // a blank salinity is refused, with its place
-    let place = pochahuic::cell_place(&file, 1, SALNTY)?;
+    let salinity = pochahuic::column_named(&file, b"SALNTY")?;
+    let place = pochahuic::cell_place(&file, 1, salinity)?;
     file[place].fill(b' ');
     if let Err(refusal) = pochahuic::check(&file) {
         println!("refused: {refusal}");

@@ -1,63 +1,16 @@
 //! Pochahuic from Rust: the proved calls of a WHP-Exchange file, over its C interface.
 //!
-//! Rows, columns and profiles count from 1. Every call on a file checks the whole file first, and answers with the refusal where it is refused.
+//! Rows, columns, profiles and headers count from 1. Every call on a file checks the whole file first, and answers with the refusal where it is refused.
 
+use c::*;
 use std::fmt;
 use std::ops::Range;
 
+mod c;
+mod columns;
 mod messages;
 
-extern "C" {
-    fn pochahuic_check(file: *const u8, length: usize, out: *mut [u64; 8]) -> u64;
-    fn pochahuic_cell(
-        file: *const u8,
-        length: usize,
-        row: u64,
-        column: u64,
-        out: *mut [u64; 5],
-    ) -> u64;
-    fn pochahuic_decimal(
-        file: *const u8,
-        length: usize,
-        row: u64,
-        column: u64,
-        millionths: *mut i64,
-        value: *mut f64,
-        out: *mut [u64; 3],
-    ) -> u64;
-    fn pochahuic_flag(
-        file: *const u8,
-        length: usize,
-        row: u64,
-        column: u64,
-        out: *mut [u64; 4],
-    ) -> u64;
-    fn pochahuic_profile(file: *const u8, length: usize, k: u64, out: *mut [u64; 10]) -> u64;
-    fn pochahuic_station(
-        file: *const u8,
-        length: usize,
-        k: u64,
-        name: *const u8,
-        name_length: usize,
-        out: *mut [u64; 5],
-    ) -> u64;
-    fn pochahuic_correct(
-        file: *mut u8,
-        length: usize,
-        row: u64,
-        column: u64,
-        millionths: i64,
-        decimals: u64,
-        flag: u64,
-        out: *mut [u64; 3],
-    ) -> u64;
-    fn pochahuic_list_line(
-        line: *const u8,
-        length: usize,
-        millionths: *mut i64,
-        out: *mut [u64; 6],
-    ) -> u64;
-}
+pub use columns::*;
 
 /// Why and where: line and column are 0 where the refusal has no place in the file.
 #[derive(Clone, Copy, Debug, PartialEq, Eq)]
@@ -147,6 +100,10 @@ pub struct Correction<'a> {
 pub fn check(file: &[u8]) -> Result<Checked, Refusal> {
     let mut out = [0; 8];
     unsafe { pochahuic_check(file.as_ptr(), file.len(), &mut out) };
+    checked(out)
+}
+
+fn checked(out: [u64; 8]) -> Result<Checked, Refusal> {
     let [number, line, column, kind, columns, rows, profiles, missing] = out;
     refused(number, line, column)?;
     let kind = if kind == 2 { Kind::Ctd } else { Kind::Bottle };
@@ -168,7 +125,11 @@ pub fn cell_place(file: &[u8], row: u64, column: u64) -> Result<Range<usize>, Re
 fn place(out: [u64; 5]) -> Result<Range<usize>, Refusal> {
     let [number, line, column, start, length] = out;
     refused(number, line, column)?;
-    Ok(start as usize..(start + length) as usize)
+    Ok(part(start, length))
+}
+
+fn part(start: u64, length: u64) -> Range<usize> {
+    start as usize..(start + length) as usize
 }
 
 /// Reads a decimal: a measured, LATITUDE, LONGITUDE or DEPTH column.
@@ -211,9 +172,14 @@ pub fn profile(file: &[u8], k: u64) -> Result<Profile, Refusal> {
 
 /// The value of profile k under a name, without the spaces at its ends: of the profile's first row, or of a CTD file's header.
 pub fn station<'a>(file: &'a [u8], k: u64, name: &[u8]) -> Result<&'a [u8], Refusal> {
+    Ok(&file[station_place(file, k, name)?])
+}
+
+/// Where that value stands in the file.
+pub fn station_place(file: &[u8], k: u64, name: &[u8]) -> Result<Range<usize>, Refusal> {
     let mut out = [0; 5];
     unsafe { pochahuic_station(file.as_ptr(), file.len(), k, name.as_ptr(), name.len(), &mut out) };
-    Ok(&file[place(out)?])
+    place(out)
 }
 
 /// Makes one correction in the file; a refused one changes no byte. The flag is 0 where the column has no flag column.

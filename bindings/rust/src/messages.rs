@@ -1,6 +1,6 @@
 //! What each refusal number says, in one sentence.
 
-pub const MESSAGES: [&str; 27] = [
+pub const MESSAGES: [&str; 30] = [
     "",
     "more than 8,192 bytes in the line",
     "no line feed at the end of the last line",
@@ -22,10 +22,13 @@ pub const MESSAGES: [&str; 27] = [
     "a value out of its range, or a flag that is not in the set",
     "END_DATA with no data line before it",
     "more than 1,000,000 data lines",
-    "no such row, column, profile or name",
+    "no such row, column, profile, header or name",
     "the column is not of the kind that is read or corrected",
     "more than 6 decimals, a size of 10^9 or more, or not exact in the decimals",
     "a flag that is not in the set, or not 0 where there is no flag column",
     "the text is longer than its cell",
     "a malformed line of a correction list",
+    "",
+    "",
+    "a lent table is too short for the rows",
 ];

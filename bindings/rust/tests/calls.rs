@@ -1,11 +1,27 @@
-//! Every call on file K of the rules, accepted and refused.
+//! Every call on file K of the rules, accepted and refused; headers on a small CTD file.
 
 use pochahuic::{
-    cell, check, correct, decimal, flag, profile, read_list_line, station, Checked, Correction, Kind,
-    Profile, Reading, Refusal,
+    cell, check, column_flags, column_flags_into, column_named, column_values, column_values_into,
+    correct, decimal, flag, header, name, open, profile, read_list_line, station, unit, Checked,
+    Correction, Header, Kind, Opened, Profile, Reading, Refusal, MISSING, PRESENT,
 };
 
 const K: &[u8] = include_bytes!("../../k_hy1.csv");
+/// A CTD file of two rows, by hand.
+const CTD: &[u8] = b"CTD,20130709ODF
+NUMBER_HEADERS = 7
+EXPOCODE = 318M20130321
+STNNBR = 1
+CASTNO = 2
+DATE = 20130322
+LATITUDE =  32.5068
+LONGITUDE =  133.0297
+CTDPRS,CTDPRS_FLAG_W
+DBAR,
+  2.0,2
+-999,9
+END_DATA
+";
 const SALNTY: u64 = 8;
 const SALNTY_FLAG_W: u64 = 9;
 
@@ -34,7 +50,7 @@ fn a_refusal_says_where_and_why() {
     assert_eq!(blank.to_string(), "line 5, column 53: blank where a value is asked (17)");
     assert_eq!(
         decimal(K, 4, SALNTY).unwrap_err().to_string(),
-        "no such row, column, profile or name (21)"
+        "no such row, column, profile, header or name (21)"
     );
 }
 
@@ -74,6 +90,99 @@ fn profiles_and_their_keys() {
     assert_eq!(station(K, 2, b"STNNBR"), Ok(&b"8"[..]));
     assert_eq!(station(K, 2, b"TIME"), Err(refusal(21, 0, 0)));
     assert_eq!(station(K, 2, b""), Err(refusal(21, 0, 0)));
+}
+
+#[test]
+fn where_the_parts_of_a_file_start() {
+    let checked = check(K).unwrap();
+    assert_eq!(open(K), Ok(Opened { checked, headers: 46, names: 46, first: 140 }));
+    let opened = open(CTD).unwrap();
+    assert!(CTD[opened.headers..].starts_with(b"NUMBER_HEADERS"));
+    assert!(CTD[opened.names..].starts_with(b"CTDPRS,"));
+    assert!(CTD[opened.first..].starts_with(b"  2.0"));
+    assert_eq!(open(&K[..10]), Err(refusal(2, 1, 11)));
+}
+
+#[test]
+fn a_column_is_found_by_its_whole_name() {
+    assert_eq!(column_named(K, b"SALNTY"), Ok(SALNTY));
+    assert_eq!(column_named(K, b"SALNTY_FLAG_W"), Ok(SALNTY_FLAG_W));
+    for absent in [&b"SALNT"[..], b"SALNTY ", b"salnty", b"SALNTY\0", b"NUMBER_HEADERS", b""] {
+        assert_eq!(column_named(K, absent), Err(refusal(21, 0, 0)));
+    }
+    assert_eq!(column_named(&K[..10], b"SALNTY"), Err(refusal(2, 1, 11)));
+}
+
+#[test]
+fn names_and_units_are_parts_of_the_file() {
+    assert_eq!(name(K, SALNTY), Ok(&b"SALNTY"[..]));
+    assert_eq!(unit(K, SALNTY), Ok(&b"PSS-78"[..]));
+    assert_eq!(unit(K, 1), Ok(&b""[..]));
+    for column in [0, 10, u64::MAX] {
+        assert_eq!(name(K, column), Err(refusal(21, 0, 0)));
+        assert_eq!(unit(K, column), Err(refusal(21, 0, 0)));
+    }
+    assert_eq!(name(&K[..10], 1), Err(refusal(2, 1, 11)));
+    assert_eq!(unit(&K[..10], 1), Err(refusal(2, 1, 11)));
+}
+
+#[test]
+fn only_a_ctd_file_has_headers() {
+    assert_eq!(header(CTD, 1), Ok(Header { name: b"NUMBER_HEADERS", value: b"7" }));
+    assert_eq!(header(CTD, 7), Ok(Header { name: b"LONGITUDE", value: b"133.0297" }));
+    assert_eq!(header(CTD, 0), Err(refusal(21, 0, 0)));
+    assert_eq!(header(CTD, 8), Err(refusal(21, 0, 0)));
+    assert_eq!(header(K, 1), Err(refusal(21, 0, 0)));
+    assert_eq!(header(&CTD[..5], 1), Err(refusal(2, 1, 6)));
+}
+
+#[test]
+fn a_column_is_read_whole() {
+    let present = |millionths, value| Reading::Present { millionths, value };
+    let salinities =
+        vec![present(35_123_400, 35.1234), Reading::Missing, present(35_201_000, 35.201)];
+    assert_eq!(column_values(K, SALNTY), Ok(salinities));
+    assert_eq!(column_values(CTD, 1), Ok(vec![present(2_000_000, 2.0), Reading::Missing]));
+    assert_eq!(column_values(K, SALNTY_FLAG_W), Err(refusal(22, 0, 0)));
+    assert_eq!(column_values(K, 0), Err(refusal(21, 0, 0)));
+    assert_eq!(column_values(&K[..10], SALNTY), Err(refusal(2, 1, 11)));
+    assert_eq!(column_flags(K, SALNTY_FLAG_W), Ok(vec![2, 9, 2]));
+    assert_eq!(column_flags(K, SALNTY), Err(refusal(22, 0, 0)));
+    assert_eq!(column_flags(K, 10), Err(refusal(21, 0, 0)));
+    assert_eq!(column_flags(&K[..10], SALNTY_FLAG_W), Err(refusal(2, 1, 11)));
+}
+
+#[test]
+fn lent_tables_keep_what_lies_past_the_rows() {
+    let (mut cases, mut millionths, mut values) = ([77; 4], [77; 3], [77.0; 5]);
+    let rows = column_values_into(K, SALNTY, &mut cases, &mut millionths, &mut values);
+    assert_eq!(rows, Ok(3));
+    assert_eq!(cases, [PRESENT, MISSING, PRESENT, 77]);
+    assert_eq!(millionths, [35_123_400, 0, 35_201_000]);
+    assert_eq!(values, [35.1234, 0.0, 35.201, 77.0, 77.0]);
+    let mut flags = [77; 4];
+    assert_eq!(column_flags_into(K, SALNTY_FLAG_W, &mut flags), Ok(3));
+    assert_eq!(flags, [2, 9, 2, 77]);
+}
+
+#[test]
+fn a_table_that_is_too_short_is_left_alone() {
+    for short in 0..3 {
+        let mut lengths = [3; 3];
+        lengths[short] = 2;
+        let (mut cases, mut millionths) = (vec![77; lengths[0]], vec![77; lengths[1]]);
+        let mut values = vec![77.0; lengths[2]];
+        let refused = column_values_into(K, SALNTY, &mut cases, &mut millionths, &mut values);
+        assert_eq!(refused, Err(refusal(29, 0, 0)));
+        assert!(cases.iter().all(|&case| case == 77));
+        assert!(millionths.iter().all(|&number| number == 77));
+        assert!(values.iter().all(|&value| value == 77.0));
+    }
+    let mut flags = [77; 2];
+    assert_eq!(column_flags_into(K, SALNTY_FLAG_W, &mut flags), Err(refusal(29, 0, 0)));
+    assert_eq!(flags, [77; 2]);
+    assert_eq!(column_flags_into(K, SALNTY, &mut []), Err(refusal(22, 0, 0)));
+    assert_eq!(refusal(29, 0, 0).to_string(), "a lent table is too short for the rows (29)");
 }
 
 #[test]
@@ -124,8 +233,8 @@ fn quoted<'a>(source: &'a str, opening: &str) -> Vec<&'a str> {
 
 #[test]
 fn the_three_bindings_have_the_same_messages() {
-    let own: Vec<&str> = (0..27).map(|number| refusal(number, 0, 0).message()).collect();
+    let own: Vec<&str> = (0..30).map(|number| refusal(number, 0, 0).message()).collect();
     assert_eq!(own, quoted(include_str!("../../c/pochahuic.h"), "messages[] = {"));
     assert_eq!(own, quoted(include_str!("../../python/pochahuic.py"), "MESSAGES = ["));
-    assert_eq!(refusal(27, 0, 0).message(), "");
+    assert_eq!(refusal(30, 0, 0).message(), "");
 }

@@ -1,12 +1,13 @@
 -- The numbers of an answer, from what the call below answered.
 use Prim.Native.Nat.{ℕ}
-use mathlib.Core.Path.{_≡_, refl, sym, ap, _∙_}
+use mathlib.Core.Path.{_≡_, sym, ap, _∙_}
 use mathlib.Core.List.{List, [], _∷_}
 use lib.ListN.{getD}
 use lib.IntN.{ℤ, pos}
-use lib.Ieee.{Float, binary64, ofInt, ofBits}
+use lib.Ieee.{Float, binary64, ofBits}
 use Rattle.text.specs.declared.Reading.{Reading}
 use Rattle.text.specs.declared.Reading.the-variants.{Present, Missing, Refused}
+use Rattle.text.proofs.DoubleLaws.{nought}
 use Rattle.format.specs.declared.Checked.{Checked}
 use Rattle.format.specs.declared.CellPlace.{CellPlace}
 use Rattle.format.specs.declared.Flagged.{Flagged}
@@ -18,7 +19,8 @@ use Rattle.orders.specs.declared.Answer.{Answer}
 use Rattle.orders.specs.declared.Answer.the-variants.{Applied, Refused as Denied}
 use Rattle.orders.specs.declared.ListLine.{ListLine}
 use Rattle.orders.specs.Corrections.{orderOf, answerOf, correctedOf, numbersOf}
-use Rattle.pochahuic.specs.Numbers.{kindNumber, checkNumbers, placeNumbers, readingCase, millionthsOf, valueOf, refusalOf, flagNumbers, timeNumbers, profileNumbers, answerNumber, lineNumbers}
+use Rattle.format.specs.ReadingNumbers.{readingCase, readMillionths, readValue}
+use Rattle.pochahuic.specs.Numbers.{kindNumber, checkNumbers, placeNumbers, refusalOf, flagNumbers, timeNumbers, profileNumbers, answerNumber, lineNumbers}
 
 pub check-answered : (x y : Checked) → x ≡ y → (k : ℕ) → k ≡ kindNumber (x .kind)
     → (x .number ≡ y .number) × (x .number ∷ x .line ∷ x .column ∷ k ∷ x .columns ∷ x .rows ∷ x .profiles ∷ x .missing ∷ [] ≡ checkNumbers y)
@@ -32,22 +34,17 @@ flag-answered x y e = (ap (λ (z : Flagged). z .number) e, ap flagNumbers e)
 
 -- ---- a decimal: what a reading r is answered by
 abbrev ReadAs : Reading → ℕ → ℤ → Float → List ℕ → Type 0
-ReadAs r k m v out = (k ≡ readingCase r) × ((m ≡ millionthsOf r) × ((v ≡ valueOf r) × (out ≡ refusalOf r)))
-
--- the double 0.0 of the code
-nought : ofBits binary64 0 ≡ ofInt binary64 (pos 0)
-unfolding ofBits ofInt
-nought = refl
+ReadAs r k m v out = (k ≡ readingCase r) × ((m ≡ readMillionths r) × ((v ≡ readValue r) × (out ≡ refusalOf r)))
 
 module _ (r x : Reading) (e : r ≡ x) where
   pub present-answered : (m : ℤ) (v : Float) → r ≡ Present m v → (z : ℤ) → z ≡ m → ReadAs x 0 z v (0 ∷ 0 ∷ 0 ∷ [])
-  present-answered m v h z same = let is = sym h ∙ e in (ap readingCase is, (same ∙ ap millionthsOf is, (ap valueOf is, ap refusalOf is)))
+  present-answered m v h z same = let is = sym h ∙ e in (ap readingCase is, (same ∙ ap readMillionths is, (ap readValue is, ap refusalOf is)))
 
   pub missing-answered : r ≡ Missing → ReadAs x 1 (pos 0) (ofBits binary64 0) (0 ∷ 0 ∷ 0 ∷ [])
-  missing-answered h = let is = sym h ∙ e in (ap readingCase is, (ap millionthsOf is, (nought ∙ ap valueOf is, ap refusalOf is)))
+  missing-answered h = let is = sym h ∙ e in (ap readingCase is, (ap readMillionths is, (nought ∙ ap readValue is, ap refusalOf is)))
 
   pub refused-answered : (a b c : ℕ) → r ≡ Refused a b c → ReadAs x 2 (pos 0) (ofBits binary64 0) (a ∷ b ∷ c ∷ [])
-  refused-answered a b c h = let is = sym h ∙ e in (ap readingCase is, (ap millionthsOf is, (nought ∙ ap valueOf is, ap refusalOf is)))
+  refused-answered a b c h = let is = sym h ∙ e in (ap readingCase is, (ap readMillionths is, (nought ∙ ap readValue is, ap refusalOf is)))
 
 -- ---- a profile, its time as three numbers
 three : (t : CastTime) (ns : List ℕ) → ns ≡ timeNumbers t → getD ns 0 0 ∷ getD ns 1 0 ∷ getD ns 2 0 ∷ [] ≡ timeNumbers t

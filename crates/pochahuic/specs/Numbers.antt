@@ -3,8 +3,6 @@
 use Prim.Native.Nat.{ℕ}
 use mathlib.Core.List.{List, [], _∷_}
 use lib.ListN.{getD}
-use lib.IntN.{ℤ, pos}
-use lib.Ieee.{Float, binary64, ofInt}
 use Rattle.text.specs.declared.Reading.{Reading}
 use Rattle.text.specs.declared.Reading.the-variants.{Present, Missing, Refused}
 use Rattle.format.specs.declared.FileKind.{FileKind}
@@ -32,22 +30,7 @@ checkNumbers x = x .number ∷ x .line ∷ x .column ∷ kindNumber (x .kind) �
 abbrev pub placeNumbers : CellPlace → List ℕ
 placeNumbers x = x .number ∷ x .line ∷ x .column ∷ x .place .start ∷ x .place .len ∷ []
 
--- ---- a decimal: 0 where it is present, 1 where it is missing, 2 where it is refused; both numbers are 0 unless it is present
-abbrev pub readingCase : Reading → ℕ
-readingCase (Present m v) = 0
-readingCase Missing = 1
-readingCase (Refused a b c) = 2
-
-abbrev pub millionthsOf : Reading → ℤ
-millionthsOf (Present m v) = m
-millionthsOf Missing = pos 0
-millionthsOf (Refused a b c) = pos 0
-
-abbrev pub valueOf : Reading → Float
-valueOf (Present m v) = v
-valueOf Missing = ofInt binary64 (pos 0)
-valueOf (Refused a b c) = ofInt binary64 (pos 0)
-
+-- ---- a decimal: its case, millionths and double (ReadingNumbers of the crate format), and its refusal
 abbrev pub refusalOf : Reading → List ℕ
 refusalOf (Present m v) = 0 ∷ 0 ∷ 0 ∷ []
 refusalOf Missing = 0 ∷ 0 ∷ 0 ∷ []

@@ -2,10 +2,11 @@
 // first (a list line has its number alone), and answers the refusal number, 0 where nothing is refused; a decimal answers which reading it is.
 ghost use mathlib.Core.Path.{_≡_};
 ghost use Rattle.format.specs.Answers.{checkedOf, placeFor, readingFor, flaggedOf};
+ghost use Rattle.format.specs.ReadingNumbers.{readingCase, readMillionths, readValue};
 ghost use Rattle.format.specs.Records.{profileOf, stationedOf, stationAnswer};
 ghost use Rattle.orders.specs.Corrections.{orderOf, answerOf, correctedOf, numbersOf};
 ghost use Rattle.orders.specs.ListLines.{lineRead};
-ghost use Rattle.pochahuic.specs.Numbers.{kindNumber, checkNumbers, placeNumbers, readingCase, millionthsOf, valueOf, refusalOf, flagNumbers, timeNumbers, profileNumbers, answerNumber, lineNumbers};
+ghost use Rattle.pochahuic.specs.Numbers.{kindNumber, checkNumbers, placeNumbers, refusalOf, flagNumbers, timeNumbers, profileNumbers, answerNumber, lineNumbers};
 use correction::Answer;
 use correction::Order;
 use exchange::CastTime;
@@ -27,7 +28,8 @@ const MISSING: u64 = 1;
 
 const REFUSED: u64 = 2;
 
-fn kind_number(kind: FileKind) -> u64
+// That number.
+pub fn kind_number(kind: FileKind) -> u64
     ensures { λ r. ⌜ r ≡ kindNumber kind ⌝ }
 {
     match kind {
@@ -59,7 +61,8 @@ pub extern "C" fn pochahuic_check(file: &[u8], out: &mut [u64; 8]) -> u64
     c.number
 }
 
-fn place_numbers(at: CellPlace) -> [u64; 5]
+// A refusal, or a place: number, line, column, start, length.
+pub fn place_numbers(at: CellPlace) -> [u64; 5]
     ensures { λ r. ⌜ r ≡ placeNumbers at ⌝ }
 {
     [
@@ -93,8 +96,8 @@ pub extern "C" fn pochahuic_decimal(
     out: &mut [u64; 3],
 ) -> u64
     ensures { λ r. ⌜ r ≡ readingCase (readingFor (now (file .entry)) row column) ⌝ }
-    ensures { λ _. ⌜ now (millionths .exit) ≡ millionthsOf (readingFor (now (file .entry)) row column) ⌝ }
-    ensures { λ _. ⌜ now (value .exit) ≡ valueOf (readingFor (now (file .entry)) row column) ⌝ }
+    ensures { λ _. ⌜ now (millionths .exit) ≡ readMillionths (readingFor (now (file .entry)) row column) ⌝ }
+    ensures { λ _. ⌜ now (value .exit) ≡ readValue (readingFor (now (file .entry)) row column) ⌝ }
     ensures { λ _. ⌜ now (out .exit) ≡ refusalOf (readingFor (now (file .entry)) row column) ⌝ }
 {
     let r = exchange::decimal(file, row, column);
