@@ -1,25 +1,42 @@
-// check FILE: checks the file once, for a tool that counts the instructions of the call; prints number, line and column.
+// check FILE [COLUMN]: checks the file once, and reads the column whole where one is named, for a tool that counts the instructions of a call; prints number, line
+// and column of the last call's answer.
 #include <stdio.h>
 #include <stdlib.h>
 
 #include "../../bindings/c/pochahuic.h"
 
+// Memory for so many things; at least one, so that the pointer is no null pointer.
+static void *room(size_t count, size_t size)
+{
+    void *room = calloc(count > 0 ? count : 1, size);
+    if (room == NULL) {
+        fprintf(stderr, "check: no memory\n");
+        exit(2);
+    }
+    return room;
+}
+
 int main(int count, char **words)
 {
-    FILE *input = count == 2 ? fopen(words[1], "rb") : NULL;
+    FILE *input = count == 2 || count == 3 ? fopen(words[1], "rb") : NULL;
     if (input == NULL || fseek(input, 0, SEEK_END) != 0) {
-        fprintf(stderr, "usage: check FILE\n");
+        fprintf(stderr, "usage: check FILE [COLUMN]\n");
         return 2;
     }
-    long size = ftell(input);
+    size_t size = (size_t)ftell(input);
     rewind(input);
-    unsigned char *file = malloc(size > 0 ? (size_t)size : 1);
-    if (file == NULL || fread(file, 1, (size_t)size, input) != (size_t)size) {
+    unsigned char *file = room(size, 1);
+    if (fread(file, 1, size, input) != size) {
         fprintf(stderr, "check: the file can't be read\n");
         return 2;
     }
     uint64_t out[8];
-    pochahuic_check(file, (size_t)size, out);
+    pochahuic_check(file, size, out);
+    if (count == 3) {
+        size_t rows = out[5];
+        pochahuic_column_values(file, size, strtoull(words[2], NULL, 10), room(rows, 1), rows, room(rows, sizeof(int64_t)), rows, room(rows, sizeof(double)),
+                                rows, out);
+    }
     printf("%llu %llu %llu\n", (unsigned long long)out[0], (unsigned long long)out[1], (unsigned long long)out[2]);
     return 0;
 }

@@ -4,7 +4,9 @@ use crate::check::FileKind;
 use crate::correct::Correction;
 use crate::files::{Made, BOTTLE_COLUMNS, MEGABYTE};
 use crate::kinds::CastTime;
-use crate::{calls, check, correct, pochahuic, refusal};
+use crate::whole_columns::{column_flags, column_values, Tables};
+use crate::{calls, check, correct, labels, pochahuic, refusal};
+use std::hash::{DefaultHasher, Hash, Hasher};
 
 const MOST_DATA_LINES: u64 = 1_000_000;
 const CTD_COLUMNS: u64 = 24;
@@ -62,6 +64,7 @@ impl Requests {
             self.hold(&what, our_decimal(bytes, row, column), their_decimal(bytes, row, column));
             self.hold(&what, our_flag(bytes, row, column), their_flag(bytes, row, column));
         }
+        self.columns(file);
         for k in [1, rows / 48, rows] {
             let what = format!("{}, profile {k}", kind.word());
             self.hold(&what, our_profile(bytes, k), their_profile(bytes, k));
@@ -71,6 +74,22 @@ impl Requests {
                 Correction { row, column: measured, millionths: -1_500_000, decimals: 2, flag };
             let what = format!("{}, {asked:?}", kind.word());
             self.hold(&what, our_correction(bytes, &asked), their_correction(bytes, &asked));
+        }
+    }
+
+    /// The file opened, what its columns are called, and whole columns: the last measured one, its flag column, and one that is not there.
+    fn columns(&mut self, file: &Made) {
+        let (bytes, kind) = (&file.bytes, file.kind.word());
+        self.hold(&format!("{kind}, opened"), our_opened(bytes), their_opened(bytes));
+        for column in [file.last_measured(), file.columns, file.columns + 1] {
+            let what = format!("{kind}, column {column}");
+            self.hold(&what, our_label(bytes, column), their_label(bytes, column));
+            self.hold(&what, our_values(file, column), their_values(file, column));
+            self.hold(&what, our_flags(file, column), their_flags(file, column));
+        }
+        for k in [1, 2, 11] {
+            let what = format!("{kind}, header {k}");
+            self.hold(&what, our_header(bytes, k), their_header(bytes, k));
         }
     }
 
@@ -144,6 +163,79 @@ fn our_flag(file: &[u8], row: u64, column: u64) -> Answer {
 
 fn their_flag(file: &[u8], row: u64, column: u64) -> Answer {
     calls::flag(file, row, column).map(|flag| flag.to_string()).map_err(their_refusal)
+}
+
+fn our_opened(file: &[u8]) -> Answer {
+    let opened = pochahuic::open(file).map_err(our_refusal)?;
+    Ok(format!("{} {} {}", opened.headers, opened.names, opened.first))
+}
+
+fn their_opened(file: &[u8]) -> Answer {
+    let opened = labels::open(file).map_err(their_refusal)?;
+    Ok(format!("{} {} {}", opened.headers, opened.names, opened.first))
+}
+
+/// The places of a column's name and unit, and the column of that name.
+fn our_label(file: &[u8], column: u64) -> Answer {
+    let name = pochahuic::name_place(file, column).map_err(our_refusal)?;
+    let unit = pochahuic::unit_place(file, column).map_err(our_refusal)?;
+    let named = pochahuic::column_named(file, &file[name.clone()]).map_err(our_refusal)?;
+    Ok(format!("{name:?} {unit:?} {named}"))
+}
+
+fn their_label(file: &[u8], column: u64) -> Answer {
+    let name = labels::name(file, column).map_err(their_refusal)?;
+    let unit = labels::unit(file, column).map_err(their_refusal)?;
+    let named = labels::column_named(file, &file[name.clone()]).map_err(their_refusal)?;
+    Ok(format!("{name:?} {unit:?} {named}"))
+}
+
+fn our_header(file: &[u8], k: u64) -> Answer {
+    pochahuic::header_place(file, k).map(|places| format!("{places:?}")).map_err(our_refusal)
+}
+
+fn their_header(file: &[u8], k: u64) -> Answer {
+    labels::header(file, k).map(|places| format!("{places:?}")).map_err(their_refusal)
+}
+
+fn tables_for(file: &Made) -> Tables {
+    let rows = file.rows as usize;
+    Tables { cases: vec![77; rows], millionths: vec![77; rows], values: vec![77.0; rows] }
+}
+
+/// The rows, and a hash of all three tables.
+fn summary(rows: usize, tables: &Tables) -> String {
+    let mut hasher = DefaultHasher::new();
+    (&tables.cases, &tables.millionths).hash(&mut hasher);
+    tables.values.iter().for_each(|value| value.to_bits().hash(&mut hasher));
+    format!("{rows} {:016x}", hasher.finish())
+}
+
+fn our_values(file: &Made, column: u64) -> Answer {
+    let mut tables = tables_for(file);
+    let Tables { cases, millionths, values } = &mut tables;
+    let rows = pochahuic::column_values_into(&file.bytes, column, cases, millionths, values)
+        .map_err(our_refusal)?;
+    Ok(summary(rows, &tables))
+}
+
+fn their_values(file: &Made, column: u64) -> Answer {
+    let mut tables = tables_for(file);
+    let rows = column_values(&file.bytes, column, &mut tables).map_err(their_refusal)?;
+    Ok(summary(rows, &tables))
+}
+
+fn our_flags(file: &Made, column: u64) -> Answer {
+    let mut tables = tables_for(file);
+    let rows = pochahuic::column_flags_into(&file.bytes, column, &mut tables.cases)
+        .map_err(our_refusal)?;
+    Ok(summary(rows, &tables))
+}
+
+fn their_flags(file: &Made, column: u64) -> Answer {
+    let mut tables = tables_for(file);
+    let rows = column_flags(&file.bytes, column, &mut tables.cases).map_err(their_refusal)?;
+    Ok(summary(rows, &tables))
 }
 
 fn our_profile(file: &[u8], k: u64) -> Answer {

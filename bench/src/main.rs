@@ -18,6 +18,9 @@ mod decimal;
 #[allow(dead_code)]
 #[path = "../../tests/reader/src/kinds.rs"]
 mod kinds;
+#[allow(dead_code)]
+#[path = "../../tests/reader/src/labels.rs"]
+mod labels;
 #[path = "../../tests/reader/src/lines.rs"]
 mod lines;
 #[path = "../../tests/reader/src/make.rs"]
@@ -31,7 +34,10 @@ mod random;
 #[allow(dead_code)]
 #[path = "../../tests/reader/src/refusal.rs"]
 mod refusal;
+#[path = "../../tests/reader/src/whole_columns.rs"]
+mod whole_columns;
 
+mod columns;
 mod files;
 mod large;
 mod memory;

@@ -4,10 +4,10 @@ use crate::check::FileKind;
 use crate::correct::Correction;
 use crate::files::{Made, BOTTLE_COLUMNS, MEGABYTE};
 use crate::timing::{time, Timed};
-use crate::{calls, check, correct, memory, pochahuic};
+use crate::{calls, check, columns, correct, memory, pochahuic};
 use std::io;
 
-const ROUNDS: usize = 25;
+pub const ROUNDS: usize = 25;
 const ROUNDS_OF_SIZES: usize = 9;
 
 /// A correction's time against that of one check.
@@ -17,10 +17,11 @@ const MOST_OF_A_BYTE: f64 = 1.2;
 
 /// Prints all of it; says whether every figure is within its limit.
 pub fn print() -> io::Result<bool> {
-    let bottle = print_calls(&Made::new(FileKind::Bottle, 20_000, BOTTLE_COLUMNS));
+    let file = Made::new(FileKind::Bottle, 20_000, BOTTLE_COLUMNS);
+    let (bottle, whole_columns) = (print_calls(&file), columns::print(&file));
     let ctd = print_calls(&Made::new(FileKind::Ctd, 5_000, 12));
     let sizes = print_sizes()?;
-    Ok(bottle && ctd && sizes)
+    Ok(bottle && whole_columns && ctd && sizes)
 }
 
 /// The calls on one file, timed beside the independent reader and two walks that no check can do without.
@@ -117,7 +118,7 @@ fn print_peak_memory(file: &Made) -> io::Result<()> {
 }
 
 /// Prints a figure with its limit; says whether it is within it.
-fn within(what: &str, figure: f64, most: f64) -> bool {
+pub fn within(what: &str, figure: f64, most: f64) -> bool {
     let is_within = figure <= most;
     let verdict = if is_within { "" } else { ": OVER" };
     println!("{what}: {figure:.3} (at most {most}){verdict}");

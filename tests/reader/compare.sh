@@ -1,7 +1,7 @@
 #!/usr/bin/env bash
 # compare.sh PROGRAM SEED COUNT
 #
-# Asks PROGRAM, an executable that speaks the request protocol of the vectors on
+# Asks PROGRAM, an executable that answers the requests of README.md on
 # standard input and output, COUNT generated requests, and compares its answers
 # with those of the reader. Prints the first difference with its request, or
 # `no difference in COUNT requests`. The status is 0 without a difference, 1

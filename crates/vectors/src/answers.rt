@@ -1,112 +1,53 @@
 // The answers. Each call puts its line at a place of the output and answers where it ends.
+use crate::by_place::answer_column;
+use crate::by_place::answer_open;
+use crate::by_place::answer_rows;
 use crate::crc::crc_of;
+use crate::puts::field;
+use crate::puts::hex_field;
+use crate::puts::put_counts;
+use crate::puts::put_flagged;
+use crate::puts::put_place;
+use crate::puts::put_reading;
+use crate::puts::put_refused;
+use crate::puts::put_span;
+use crate::puts::signed_field;
 use crate::request::Call;
+use crate::request::ColumnCall;
 use crate::request::call_of;
+use crate::request::column_call_of;
 use crate::request::number_in;
 use crate::request::signed_in;
+use crate::tables::answer_flags;
+use crate::tables::answer_values;
 use correction::Answer;
 use correction::Order;
 use exchange::CastTime;
-use exchange::FileKind;
 use pages::put;
-use pages::put_number;
-use text::Reading;
-
-// A field is a space, then a number.
-fn field(out: &mut [u8], from: usize, n: u64) -> usize {
-    let at = put(out, from, b" ");
-    put_number(out, at, n)
-}
-
-fn signed_field(out: &mut [u8], from: usize, n: i64) -> usize {
-    if n < 0 {
-        let at = put(out, from, b" -");
-        return put_number(out, at, numbers::size_of(n));
-    }
-    field(out, from, numbers::size_of(n))
-}
-
-// So many hexadecimal digits.
-fn hex_field(out: &mut [u8], from: usize, n: u64, width: usize) -> usize {
-    let mut digits = [0u8; 16];
-    let at = put(out, from, b" ");
-    let count = io::hex(n, width, &mut digits);
-    put(out, at, &digits[..count])
-}
-
-fn put_refused(out: &mut [u8], from: usize, number: u64, line: u64, column: u64) -> usize {
-    let a = put(out, from, b"refused");
-    let b = field(out, a, number);
-    let c = field(out, b, line);
-    field(out, c, column)
-}
-
-fn put_kind(out: &mut [u8], from: usize, kind: FileKind) -> usize {
-    match kind {
-        FileKind::Bottle => put(out, from, b"accepted BOTTLE"),
-        FileKind::Ctd => put(out, from, b"accepted CTD"),
-        FileKind::Unknown => put(out, from, b"accepted"),
-    }
-}
 
 fn answer_check(file: &[u8], out: &mut [u8], from: usize) -> usize {
     let c = exchange::check(file);
     if c.number != 0 {
         return put_refused(out, from, c.number, c.line, c.column);
     }
-    let kind = c.kind;
-    let a = put_kind(out, from, kind);
-    let b = field(out, a, c.columns);
-    let d = field(out, b, c.rows);
-    let e = field(out, d, c.profiles);
-    field(out, e, c.missing)
+    let a = put(out, from, b"accepted");
+    put_counts(out, a, c)
 }
 
 fn answer_cell(file: &[u8], row: u64, column: u64, out: &mut [u8], from: usize) -> usize {
-    let p = exchange::cell_place(file, row, column);
-    if p.number != 0 {
-        return put_refused(out, from, p.number, p.line, p.column);
-    }
-    let place = p.place;
-    let a = put(out, from, b"cell");
-    let b = field(out, a, place.start as u64);
-    field(out, b, place.len as u64)
+    put_place(out, from, b"cell", exchange::cell_place(file, row, column))
 }
 
-// The bits of a double; no reading is a NaN.
-fn bits_of(value: f64) -> u64 {
-    if value == value {
-        f64::to_bits(value)
-    } else {
-        0
+fn answer_header(file: &[u8], k: u64, out: &mut [u8], from: usize) -> usize {
+    let h = exchange::header_place(file, k);
+    if h.number != 0 {
+        return put_refused(out, from, h.number, h.line, h.column);
     }
-}
-
-fn put_present(out: &mut [u8], from: usize, millionths: i64, value: f64) -> usize {
-    let a = put(out, from, b"present");
-    let b = signed_field(out, a, millionths);
-    hex_field(out, b, bits_of(value), 16)
-}
-
-fn answer_decimal(file: &[u8], row: u64, column: u64, out: &mut [u8], from: usize) -> usize {
-    match exchange::decimal(file, row, column) {
-        Reading::Present { millionths, value } => put_present(out, from, millionths, value),
-        Reading::Missing => put(out, from, b"missing"),
-        Reading::Refused {
-            number,
-            line,
-            column,
-        } => put_refused(out, from, number, line, column),
-    }
-}
-
-fn answer_flag(file: &[u8], row: u64, column: u64, out: &mut [u8], from: usize) -> usize {
-    let f = exchange::flag(file, row, column);
-    if f.number != 0 {
-        return put_refused(out, from, f.number, f.line, f.column);
-    }
-    let a = put(out, from, b"flag");
-    field(out, a, f.flag)
+    let name = h.name;
+    let value = h.value;
+    let a = put(out, from, b"header");
+    let b = put_span(out, a, name);
+    put_span(out, b, value)
 }
 
 fn put_given(out: &mut [u8], from: usize, hour: u64, minute: u64) -> usize {
@@ -174,11 +115,10 @@ fn answer_line(line: &[u8], out: &mut [u8], from: usize) -> usize {
     let name = l.name;
     let a = put(out, from, b"line");
     let b = field(out, a, l.row);
-    let c = field(out, b, name.start as u64);
-    let d = field(out, c, name.len as u64);
-    let e = signed_field(out, d, l.millionths);
-    let f = field(out, e, l.decimals);
-    field(out, f, l.flag)
+    let c = put_span(out, b, name);
+    let d = signed_field(out, c, l.millionths);
+    let e = field(out, d, l.decimals);
+    field(out, e, l.flag)
 }
 
 fn answer_report(
@@ -194,6 +134,29 @@ fn answer_report(
     field(out, b, n as u64)
 }
 
+// The answer to a request on names or columns.
+fn put_column_answer(
+    head: &[u8; 256],
+    file: &[u8],
+    page: &mut [u8],
+    table: &[u32; 256],
+    out: &mut [u8],
+    from: usize,
+) -> usize {
+    let n = number_in(head, 1);
+    match column_call_of(head) {
+        ColumnCall::Open => answer_open(file, out, from),
+        ColumnCall::Name => put_place(out, from, b"name", exchange::name_place(file, n)),
+        ColumnCall::Unit => put_place(out, from, b"unit", exchange::unit_place(file, n)),
+        ColumnCall::Header => answer_header(file, n, out, from),
+        ColumnCall::Values => answer_values(head, file, table, out, from),
+        ColumnCall::Flags => answer_flags(head, file, table, out, from),
+        ColumnCall::Rows => answer_rows(file, n, page, table, out, from),
+        ColumnCall::Column => answer_column(file, n, out, from),
+        ColumnCall::Unknown => put(out, from, b"unknown"),
+    }
+}
+
 // The answer to a request without its line feed.
 fn put_answer(
     head: &[u8; 256],
@@ -203,16 +166,18 @@ fn put_answer(
     out: &mut [u8],
     from: usize,
 ) -> usize {
+    let n = number_in(head, 1);
+    let m = number_in(head, 2);
     match call_of(head) {
         Call::Check => answer_check(file, out, from),
-        Call::Cell => answer_cell(file, number_in(head, 1), number_in(head, 2), out, from),
-        Call::Decimal => answer_decimal(file, number_in(head, 1), number_in(head, 2), out, from),
-        Call::Flag => answer_flag(file, number_in(head, 1), number_in(head, 2), out, from),
-        Call::Profile => answer_profile(file, number_in(head, 1), out, from),
+        Call::Cell => answer_cell(file, n, m, out, from),
+        Call::Decimal => put_reading(out, from, exchange::decimal(file, n, m)),
+        Call::Flag => put_flagged(out, from, exchange::flag(file, n, m)),
+        Call::Profile => answer_profile(file, n, out, from),
         Call::Correct => answer_correct(head, file, table, out, from),
         Call::Line => answer_line(file, out, from),
         Call::Report => answer_report(file, page, table, out, from),
-        Call::Unknown => put(out, from, b"unknown"),
+        Call::Other => put_column_answer(head, file, page, table, out, from),
     }
 }
 

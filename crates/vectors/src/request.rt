@@ -1,7 +1,7 @@
 // The line of a request: a word and numbers, parted by single spaces.
 ghost use Rattle.io.specs.Counts.{Counts};
 
-// What is asked.
+// What is asked of a file or a list line.
 pub enum Call {
     Check,
     Cell,
@@ -11,7 +11,27 @@ pub enum Call {
     Correct,
     Line,
     Report,
+    Other,
+}
+
+// What is asked of a file's names and columns.
+pub enum ColumnCall {
+    Open,
+    Name,
+    Unit,
+    Header,
+    Values,
+    Flags,
+    Rows,
+    Column,
     Unknown,
+}
+
+// The lengths of a request's blocks; only those that are asked by a name have the second.
+pub struct Lengths {
+    pub file: u64,
+    pub named: bool,
+    pub name: u64,
 }
 
 // Where the first word ends.
@@ -55,7 +75,47 @@ pub fn call_of(head: &[u8]) -> Call {
     if text::same(word, b"report") {
         return Call::Report;
     }
-    Call::Unknown
+    Call::Other
+}
+
+pub fn column_call_of(head: &[u8]) -> ColumnCall {
+    let n = word_end(head);
+    let word = &head[..n];
+    if text::same(word, b"open") {
+        return ColumnCall::Open;
+    }
+    if text::same(word, b"name") {
+        return ColumnCall::Name;
+    }
+    if text::same(word, b"unit") {
+        return ColumnCall::Unit;
+    }
+    if text::same(word, b"header") {
+        return ColumnCall::Header;
+    }
+    if text::same(word, b"values") {
+        return ColumnCall::Values;
+    }
+    if text::same(word, b"flags") {
+        return ColumnCall::Flags;
+    }
+    if text::same(word, b"rows") {
+        return ColumnCall::Rows;
+    }
+    if text::same(word, b"column") {
+        return ColumnCall::Column;
+    }
+    ColumnCall::Unknown
+}
+
+fn is_named(head: &[u8]) -> bool {
+    let n = word_end(head);
+    text::same(&head[..n], b"named")
+}
+
+pub fn is_station(head: &[u8]) -> bool {
+    let n = word_end(head);
+    text::same(&head[..n], b"station")
 }
 
 // A number with one more digit, as its byte, at its end; the greatest where it is no u64.
@@ -136,8 +196,8 @@ pub fn signed_in(head: &[u8], k: usize) -> i64 {
     with_sign(false, number_at(head, at))
 }
 
-// The number of the last word: the length of the request's bytes.
-pub fn length_in(head: &[u8; 256]) -> u64 {
+// The number of the last word: the length of the only block.
+fn length_in(head: &[u8; 256]) -> u64 {
     let mut i = 256;
     while 0 < i {
         let k = i - 1;
@@ -147,4 +207,27 @@ pub fn length_in(head: &[u8; 256]) -> u64 {
         i = k;
     }
     0
+}
+
+// The last numbers of the line.
+pub fn lengths_in(head: &[u8; 256]) -> Lengths {
+    if is_named(head) {
+        return Lengths {
+            file: number_in(head, 1),
+            named: true,
+            name: number_in(head, 2),
+        };
+    }
+    if is_station(head) {
+        return Lengths {
+            file: number_in(head, 2),
+            named: true,
+            name: number_in(head, 3),
+        };
+    }
+    Lengths {
+        file: length_in(head),
+        named: false,
+        name: 0,
+    }
 }

@@ -18,15 +18,23 @@ pub enum Reading {
 /// The trimmed part of any cell of the data lines, counted from 0 at the
 /// file's start.
 pub fn cell(file: &[u8], row: u64, column: u64) -> Result<Range<usize>, Refusal> {
-    let exchange = check(file)?;
-    let (cell, _) = find_cell(&exchange, row, column)?;
+    cell_of(&check(file)?, row, column)
+}
+
+/// The same in a file that was checked.
+pub fn cell_of(exchange: &Exchange, row: u64, column: u64) -> Result<Range<usize>, Refusal> {
+    let (cell, _) = find_cell(exchange, row, column)?;
     Ok(cell.trimmed_range())
 }
 
 /// Reads a measured, LATITUDE, LONGITUDE or DEPTH column.
 pub fn decimal(file: &[u8], row: u64, column: u64) -> Result<Reading, Refusal> {
-    let exchange = check(file)?;
-    let (cell, kind) = find_cell(&exchange, row, column)?;
+    decimal_of(&check(file)?, row, column)
+}
+
+/// The same in a file that was checked.
+pub fn decimal_of(exchange: &Exchange, row: u64, column: u64) -> Result<Reading, Refusal> {
+    let (cell, kind) = find_cell(exchange, row, column)?;
     match kinds::judge(kind, cell.trimmed()) {
         Ok(Value::Millionths(MISSING)) => Ok(Reading::Missing),
         Ok(Value::Millionths(millionths)) => {
@@ -38,8 +46,12 @@ pub fn decimal(file: &[u8], row: u64, column: u64) -> Result<Reading, Refusal> {
 
 /// Reads the flag column itself.
 pub fn flag(file: &[u8], row: u64, column: u64) -> Result<u8, Refusal> {
-    let exchange = check(file)?;
-    let (cell, kind) = find_cell(&exchange, row, column)?;
+    flag_of(&check(file)?, row, column)
+}
+
+/// The same in a file that was checked.
+pub fn flag_of(exchange: &Exchange, row: u64, column: u64) -> Result<u8, Refusal> {
+    let (cell, kind) = find_cell(exchange, row, column)?;
     match kinds::judge(kind, cell.trimmed()) {
         Ok(Value::Flag(flag)) => Ok(flag),
         _ => Err(Refusal::without_place(COLUMN_OF_OTHER_KIND)),
@@ -66,8 +78,8 @@ pub fn find_cell<'f>(
     Ok((cell, exchange.columns[column].kind))
 }
 
-/// Rows, columns and profiles count from 1.
-fn index_below(number: u64, count: usize) -> Result<usize, Refusal> {
+/// Rows, columns, profiles and headers count from 1.
+pub fn index_below(number: u64, count: usize) -> Result<usize, Refusal> {
     if (1..=count as u64).contains(&number) {
         Ok((number - 1) as usize)
     } else {

@@ -3,7 +3,7 @@
 
 use crate::decimal::MISSING;
 use crate::kinds::{self, Kind, Value};
-use crate::lines::{self, trim, Cell, Line};
+use crate::lines::{self, Cell, Line};
 use crate::profiles::{self, Profile};
 use crate::refusal::*;
 
@@ -27,9 +27,11 @@ impl FileKind {
     }
 }
 
+/// What stands before the first `=` of a header line, what stands after it,
+/// and what the second says.
 pub struct Header<'f> {
-    pub name: &'f [u8],
-    pub text: &'f [u8],
+    pub name: Cell<'f>,
+    pub text: Cell<'f>,
     pub value: Value,
 }
 
@@ -41,6 +43,10 @@ pub struct Column<'f> {
 /// A file that the check accepted.
 pub struct Exchange<'f> {
     pub kind: FileKind,
+    /// A bottle file has none.
+    pub headers: Vec<Header<'f>>,
+    pub names: Line<'f>,
+    pub units: Line<'f>,
     pub columns: Vec<Column<'f>>,
     pub rows: Vec<Line<'f>>,
     pub profiles: Vec<Profile<'f>>,
@@ -56,15 +62,17 @@ pub fn check(file: &[u8]) -> Result<Exchange<'_>, Refusal> {
         FileKind::Bottle => Vec::new(),
         FileKind::Ctd => header_lines(&mut places)?,
     };
-    let columns = names_line(places.due_line()?, kind)?;
-    units_line(places.due_line()?, &columns)?;
+    let names = places.due_line()?;
+    let columns = names_line(names, kind)?;
+    let units = places.due_line()?;
+    has_cell_for_each(units, &columns)?;
     let (rows, missing) = data_lines(&mut places, &columns)?;
     places.pass_free_lines()?;
     let profiles = match kind {
         FileKind::Bottle => profiles::of_bottle_file(&columns, &rows),
         FileKind::Ctd => vec![profiles::of_ctd_file(&headers, &rows)],
     };
-    Ok(Exchange { kind, columns, rows, profiles, missing })
+    Ok(Exchange { kind, headers, names, units, columns, rows, profiles, missing })
 }
 
 /// The lines of the file and how many of them have been taken.
@@ -128,7 +136,7 @@ fn header_lines<'f>(places: &mut Places<'f>) -> Result<Vec<Header<'f>>, Refusal>
         line = places.due_line()?;
         headers.push(header_line(line, &headers)?);
     }
-    let has = |name: &str| headers.iter().any(|header| header.name == name.as_bytes());
+    let has = |name: &str| headers.iter().any(|header| header.name.trimmed() == name.as_bytes());
     if !kinds::REQUIRED_NAMES.iter().all(|name| has(name)) {
         return Err(line.refuse(REQUIRED_NAME_ABSENT, 1));
     }
@@ -138,7 +146,8 @@ fn header_lines<'f>(places: &mut Places<'f>) -> Result<Vec<Header<'f>>, Refusal>
 /// The first header is `NUMBER_HEADERS` with n from 1 to 64 in one or two digits.
 fn number_headers(line: Line) -> Result<usize, Refusal> {
     let bad_header = line.refuse(BAD_HEADER, 1);
-    let (name, value, _) = split_header(line).ok_or(bad_header)?;
+    let (name, value) = split_header(line).ok_or(bad_header)?;
+    let (name, value) = (name.trimmed(), value.trimmed());
     let is_number = (1..=2).contains(&value.len()) && value.iter().all(u8::is_ascii_digit);
     if name != b"NUMBER_HEADERS" || !is_number {
         return Err(bad_header);
@@ -152,24 +161,22 @@ fn number_headers(line: Line) -> Result<usize, Refusal> {
 
 /// One header line: 8, 9, then 17, 16, 18 of the value.
 fn header_line<'f>(line: Line<'f>, earlier: &[Header<'f>]) -> Result<Header<'f>, Refusal> {
-    let (name, text, column) = split_header(line).ok_or(line.refuse(BAD_HEADER, 1))?;
-    if !kinds::is_good_header_name(name) {
+    let (name, text) = split_header(line).ok_or(line.refuse(BAD_HEADER, 1))?;
+    if !kinds::is_good_header_name(name.trimmed()) {
         return Err(line.refuse(BAD_HEADER, 1));
     }
-    if earlier.iter().any(|header| header.name == name) {
+    if earlier.iter().any(|header| header.name.trimmed() == name.trimmed()) {
         return Err(line.refuse(NAME_REPEATED, 1));
     }
-    let value = kinds::judge(kinds::kind_of_header(name), text)
-        .map_err(|number| line.refuse(number, column))?;
+    let value = kinds::judge(kinds::kind_of_header(name.trimmed()), text.trimmed())
+        .map_err(|number| line.refuse(number, text.column))?;
     Ok(Header { name, text, value })
 }
 
-/// `NAME = value`, split at the first `=`; the third part is the byte column
-/// just after the `=`.
-fn split_header<'f>(line: Line<'f>) -> Option<(&'f [u8], &'f [u8], usize)> {
+/// `NAME = value`, split at the first `=`.
+fn split_header(line: Line<'_>) -> Option<(Cell<'_>, Cell<'_>)> {
     let equals = line.bytes.iter().position(|&byte| byte == b'=')?;
-    let (name, value) = (&line.bytes[..equals], &line.bytes[equals + 1..]);
-    Some((trim(name), trim(value), equals + 2))
+    Some((line.part(0..equals), line.part(equals + 1..line.bytes.len())))
 }
 
 /// Names, cell by cell: 11, 10, 9; then 12 from the left; then 13.
@@ -213,10 +220,6 @@ fn flags_have_parameters(line: Line, names: &[Cell]) -> Result<(), Refusal> {
         }
     }
     Ok(())
-}
-
-fn units_line(line: Line, columns: &[Column]) -> Result<(), Refusal> {
-    has_cell_for_each(line, columns)
 }
 
 fn has_cell_for_each(line: Line, columns: &[Column]) -> Result<(), Refusal> {

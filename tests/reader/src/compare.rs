@@ -1,5 +1,6 @@
 //! Compares given answers with the reader's own, request by request.
 
+use crate::answers::answer;
 use crate::protocol::{read_request, Request};
 use std::io::{self, BufRead, Write};
 
@@ -12,7 +13,7 @@ pub fn compare(
     let mut number = 0;
     while let Some((request, bytes)) = read_request(requests)? {
         number += 1;
-        let own = request.answer(&bytes) + "\n";
+        let own = answer(&request, &bytes) + "\n";
         let given = next_line(answers)?;
         if given != own.as_bytes() {
             show_difference(number, &request, &bytes, &own, &given, output)?;
@@ -47,7 +48,8 @@ fn show_difference(
     let given =
         if given.is_empty() { "(nothing)".into() } else { given.escape_ascii().to_string() };
     writeln!(output, "program: {given}")?;
-    dump(bytes, output)
+    dump(bytes, output)?;
+    request.name().map_or(Ok(()), |name| dump(name, output))
 }
 
 /// Sixteen bytes a line: the place of the first, the bytes in hexadecimal,

@@ -1,7 +1,8 @@
 //! Makes requests from a seed: valid files, files spoilt by rule, calls at the
-//! edges, list lines, and sequences of corrections. The same seed and count
+//! edges, names, whole columns, list lines, and sequences of corrections. The same seed and count
 //! give the same bytes.
 
+mod columns;
 mod draft;
 mod limits;
 mod list_lines;
@@ -56,7 +57,7 @@ impl<O: Write> Requests<'_, O> {
 /// Several calls on one valid file.
 fn read_valid_file<O: Write>(random: &mut Random, requests: &mut Requests<O>) -> io::Result<()> {
     let file = valid::valid_draft(random).bytes();
-    let count = random.between(2, 6);
+    let count = random.between(2, 8);
     add_readings(random, requests, &file, count)
 }
 
@@ -70,9 +71,14 @@ fn add_readings<O: Write>(
         Ok(exchange) => {
             requests.add(Request::Check, file)?;
             for _ in 1..count {
-                requests.add(requests::reading(random, &exchange), file)?;
+                let request = match random.below(3) {
+                    0 => requests::reading(random, &exchange),
+                    _ => columns::asking(random, &exchange),
+                };
+                requests.add(request, file)?;
             }
         }
+        Err(_) if random.one_in(3) => requests.add(columns::asking_of_refused(random), file)?,
         Err(_) => requests.add(requests::reading_of_refused(random), file)?,
     }
     Ok(())
@@ -92,6 +98,7 @@ fn correct_file<O: Write>(random: &mut Random, requests: &mut Requests<O>) -> io
             0 | 1 => requests.add(Request::Decimal { row, column }, &corrected)?,
             2 => requests.add(Request::Cell { row, column }, &corrected)?,
             3 => requests.add(Request::Report, &corrected)?,
+            4 => requests.add(columns::exact_values(&exchange, column), &corrected)?,
             _ => {}
         }
         if let Some(column) = flag_column_of(&exchange, column).filter(|_| random.one_in(3)) {
@@ -184,7 +191,8 @@ fn read_file_of_exact_size<O: Write>(
 ) -> io::Result<()> {
     let file = limits::file_of_size(random);
     let cell = Request::Cell { row: 1, column: 1 };
-    let choices = [Request::Report, Request::Report, Request::Check, Request::Line, cell];
+    let named = Request::Named { name: b"SALNTY"[..random.below(3)].to_vec() };
+    let choices = [Request::Report, Request::Report, Request::Check, Request::Line, cell, named];
     requests.add(random.pick(&choices), &file)
 }
 

@@ -19,7 +19,8 @@ pub struct Line<'f> {
     pub has_line_feed: bool,
 }
 
-/// What stands between two commas of a line, spaces included.
+/// What stands between two commas of a line, or on one side of a header's `=`,
+/// spaces included.
 #[derive(Clone, Copy)]
 pub struct Cell<'f> {
     /// Where its first byte stands in the file, counted from 0.
@@ -54,10 +55,15 @@ impl<'f> Line<'f> {
     pub fn cells(self) -> impl Iterator<Item = Cell<'f>> {
         let mut offset = 0;
         self.bytes.split(|&byte| byte == b',').map(move |bytes| {
-            let cell = Cell { start: self.start + offset, column: offset + 1, bytes };
+            let cell = self.part(offset..offset + bytes.len());
             offset += bytes.len() + 1;
             cell
         })
+    }
+
+    pub fn part(self, range: Range<usize>) -> Cell<'f> {
+        let Range { start, .. } = range;
+        Cell { start: self.start + start, column: start + 1, bytes: &self.bytes[range] }
     }
 
     /// The rules every line meets. The lowest number wins, not the leftmost byte.

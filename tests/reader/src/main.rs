@@ -1,6 +1,7 @@
 //! The independent reader of WHP-Exchange bottle and CTD files, written from
-//! document 01 and its readings alone, rule by rule.
+//! the rules and the words of the calls alone, rule by rule.
 
+mod answers;
 mod bench;
 mod calls;
 mod check;
@@ -10,6 +11,7 @@ mod crc;
 mod decimal;
 mod generate;
 mod kinds;
+mod labels;
 mod lines;
 mod list_line;
 mod make;
@@ -20,10 +22,11 @@ mod refusal;
 mod report;
 #[cfg(test)]
 mod samples;
+mod whole_columns;
 
 use check::FileKind;
 use std::fs::{self, File};
-use std::io::{self, BufReader, BufWriter, Write};
+use std::io::{self, BufReader, BufWriter, Read, Write};
 use std::process::ExitCode;
 
 const USAGE: &str = "\
@@ -31,6 +34,7 @@ usage: reader answer                     requests on standard input, answers on 
        reader compare REQUESTS ANSWERS   the first answer that is not the reader's own
        reader generate SEED COUNT        requests on standard output
        reader make bottle ROWS COLUMNS   a valid file on standard output; so does make ctd
+       reader report                     the report on the file on standard input
        reader bench FILE                 times a check of the file
 ";
 
@@ -53,7 +57,7 @@ fn run(words: &[&str]) -> io::Result<bool> {
     let mut output = BufWriter::new(io::stdout().lock());
     let mut is_well = true;
     match words {
-        ["answer"] => protocol::answer_all(&mut io::stdin().lock(), &mut output)?,
+        ["answer"] => answers::answer_all(&mut io::stdin().lock(), &mut output)?,
         ["compare", requests, answers] => {
             let mut requests = BufReader::new(File::open(requests)?);
             let mut answers = BufReader::new(File::open(answers)?);
@@ -65,6 +69,11 @@ fn run(words: &[&str]) -> io::Result<bool> {
         ["make", kind @ ("bottle" | "ctd"), rows, columns] => {
             let kind = if *kind == "ctd" { FileKind::Ctd } else { FileKind::Bottle };
             make::make(kind, number(rows)? as usize, number(columns)? as usize, &mut output)?;
+        }
+        ["report"] => {
+            let mut file = Vec::new();
+            io::stdin().lock().read_to_end(&mut file)?;
+            output.write_all(&report::report(&file))?;
         }
         ["bench", file] => bench::bench(&fs::read(file)?, &mut output)?,
         _ => return Err(io::Error::new(io::ErrorKind::InvalidInput, USAGE)),

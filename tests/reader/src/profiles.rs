@@ -35,7 +35,7 @@ pub fn of_bottle_file<'f>(columns: &[Column], rows: &[Line<'f>]) -> Vec<Profile<
 pub fn of_ctd_file<'f>(headers: &[Header<'f>], rows: &[Line]) -> Profile<'f> {
     let mut profile = blank_profile(1, rows.len());
     for header in headers {
-        take(&mut profile, header.name, header.text, header.value);
+        take(&mut profile, header.name.trimmed(), header.text.trimmed(), header.value);
     }
     profile
 }

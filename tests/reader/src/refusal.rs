@@ -27,6 +27,8 @@ pub const VALUE_NOT_WRITABLE: u8 = 23;
 pub const FLAG_NOT_IN_SET: u8 = 24;
 pub const TEXT_TOO_LONG: u8 = 25;
 pub const MALFORMED_LIST_LINE: u8 = 26;
+/// Of the product's own calls: a lent table is too short for the rows.
+pub const TABLE_TOO_SHORT: u8 = 29;
 
 #[derive(Clone, Copy, Debug, PartialEq, Eq)]
 pub struct Refusal {

@@ -1,13 +1,16 @@
-//! The bench samples of document 01, its listing of the report on file K, and
-//! the samples of its readings.
+//! The bench samples of document 01, its listing of the report on file K, the
+//! samples of its readings, and the calls on names and columns, by hand.
 
 use crate::calls::{self, Reading};
 use crate::check::check;
 use crate::correct::{correct, Correction};
 use crate::decimal;
 use crate::kinds::{judge, Kind, Value};
+use crate::labels;
 use crate::list_line;
+use crate::refusal::Refusal;
 use crate::report::report;
+use crate::whole_columns::{column_flags, column_values, Tables};
 
 const FILE_K: &str = "\
 BOTTLE,20240310ABCXYZJRS
@@ -122,4 +125,56 @@ fn examples_of_source_document_000() {
     assert_eq!(report(BOTTLE_EXAMPLE), bottle.as_bytes());
     let ctd = "accepted\tCTD\t8\t8\t1\t0\nprofile\t1\t8\t318M20130321\t1\t2\n";
     assert_eq!(report(CTD_EXAMPLE), ctd.as_bytes());
+}
+
+#[test]
+fn labels_of_k() {
+    let file = FILE_K.as_bytes();
+    let opened = labels::open(file).ok().unwrap();
+    assert_eq!((opened.headers, opened.names, opened.first), (46, 46, 140));
+    assert_eq!(labels::column_named(file, b"SALNTY"), Ok(8));
+    for absent in [&b"SALNT"[..], b"SALNTY_", b" SALNTY", b"SALNTY ", b"salnty", b"SALNTY\0", b""] {
+        assert_eq!(labels::column_named(file, absent), Err(Refusal::without_place(21)));
+    }
+    assert_eq!(labels::name(file, 8), Ok(100..106));
+    assert_eq!(labels::unit(file, 8), Ok(132..138));
+    assert_eq!(labels::unit(file, 9), Ok(139..139));
+    assert_eq!(labels::unit(file, 10), Err(Refusal::without_place(21)));
+    assert_eq!(labels::header(file, 1), Err(Refusal::without_place(21)));
+    assert_eq!(labels::station(file, 2, b"STNNBR").map(|place| &file[place]), Ok(&b"8"[..]));
+    assert_eq!(labels::column(file, 8), Ok((0, 9)));
+    assert_eq!(labels::column(file, 9), Ok((4, 0)));
+}
+
+#[test]
+fn headers_of_the_example() {
+    let file = CTD_EXAMPLE;
+    let header = |k| labels::header(file, k).map(|(name, value)| (&file[name], &file[value]));
+    assert_eq!(header(1), Ok((&b"NUMBER_HEADERS"[..], &b"10"[..])));
+    assert_eq!(header(2), Ok((&b"EXPOCODE"[..], &b"318M20130321"[..])));
+    assert_eq!(header(0), Err(Refusal::without_place(21)));
+    assert_eq!(header(11), Err(Refusal::without_place(21)));
+    assert_eq!(labels::station(file, 1, b"STNNBR").map(|place| &file[place]), Ok(&b"1"[..]));
+    assert_eq!(labels::station(file, 1, b"CTDPRS"), Err(Refusal::without_place(21)));
+}
+
+#[test]
+fn whole_columns_of_k() {
+    let file = FILE_K.as_bytes();
+    let read = |column, [cases, millionths, values]: [usize; 3]| {
+        let (cases, millionths) = (vec![77; cases], vec![77; millionths]);
+        let mut tables = Tables { cases, millionths, values: vec![77.0; values] };
+        let rows = column_values(file, column, &mut tables).map_err(|refusal| refusal.number);
+        (rows, tables.cases, tables.millionths, tables.values)
+    };
+    let millionths = vec![35_123_400, 0, 35_201_000, 77];
+    assert_eq!(read(8, [3, 4, 3]), (Ok(3), vec![0, 1, 0], millionths, vec![35.1234, 0.0, 35.201]));
+    assert_eq!(read(8, [3, 2, 3]), (Err(29), vec![77; 3], vec![77; 2], vec![77.0; 3]));
+    assert_eq!(read(9, [0, 0, 0]).0, Err(22));
+    assert_eq!(read(10, [0, 0, 0]).0, Err(21));
+    let mut flags = [77; 4];
+    assert_eq!(column_flags(file, 9, &mut flags), Ok(3));
+    assert_eq!(flags, [2, 9, 2, 77]);
+    assert_eq!(column_flags(file, 9, &mut flags[..2]), Err(Refusal::without_place(29)));
+    assert_eq!(column_flags(file, 8, &mut flags), Err(Refusal::without_place(22)));
 }

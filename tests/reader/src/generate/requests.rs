@@ -65,7 +65,8 @@ pub fn edge(random: &mut Random, last: usize) -> u64 {
     random.pick(&edges)
 }
 
-fn usual(random: &mut Random, last: usize, one_in: usize) -> u64 {
+/// Mostly a number from 1 to `last`; one in so many at its edges.
+pub fn usual(random: &mut Random, last: usize, one_in: usize) -> u64 {
     if random.one_in(one_in) {
         edge(random, last)
     } else {
@@ -119,7 +120,7 @@ pub fn reading_of_refused(random: &mut Random) -> Request {
 }
 
 /// A column of a kind, counted from 1, or another one where there is none.
-fn column_of(
+pub fn column_of(
     random: &mut Random,
     exchange: &Exchange,
     is_of_kind: impl Fn(Kind) -> bool,

@@ -1,7 +1,7 @@
 use borrow.Author.Needs.{needs}
 use Rattle.vectors.proofs.FloatLaws.{no-nan}
-use Rattle.vectors.proofs.answers.bits_of.Statement.{statement}
-use Rattle.vectors.proofs.answers.bits_of.Tie as tie
+use Rattle.vectors.proofs.puts.bits_of.Statement.{statement}
+use Rattle.vectors.proofs.puts.bits_of.Tie as tie
 
 float-to-bits-result : tie.Need-float-to-bits-result
 float-to-bits-result c = no-nan _ (c .if1 .taken)
