@@ -3,7 +3,7 @@
  * Link target/libpochahuic.a (x86-64 Linux), which `bash bindings/archive` writes. Nothing is allocated, nothing is kept between calls, and
  * calls may be made from several threads at once as long as no two of them share a lent array or a file that one of them corrects.
  *
- * Every call on a file checks the whole file first. What each call answers is proved for every file and every number; what it asks of the caller is C's own:
+ * Every call on a file but pochahuic_column_in checks the whole file first. What each call answers is proved for every file and every number; what it asks of the caller is C's own:
  * - file, name and their lengths: that many bytes that can be read (written, for pochahuic_correct), no null pointer even where the length is 0;
  * - out, millionths, value: arrays and numbers of exactly the sizes shown, which can be written and which share no byte with each other or with the file;
  * - tables (of pochahuic_column_values and pochahuic_column_flags): that many entries, likewise, no null pointer even where the length is 0.
@@ -12,7 +12,7 @@
  *
  * Lines, columns, rows, profiles and headers count from 1; starts of parts count bytes from 0 at the file's start.
  * out[0], out[1], out[2] are the refusal number, the line and the byte column of what is refused: 0 each where nothing is, line and column 0 from 21 on.
- * A call answers out[0] again, but for pochahuic_decimal, whose answer says which reading it is.
+ * A call answers out[0] again, but for pochahuic_decimal, whose answer says which reading it is, and pochahuic_column_in, which has no out.
  */
 #ifndef POCHAHUIC_H
 #define POCHAHUIC_H
@@ -68,6 +68,11 @@ uint64_t pochahuic_open(const uint8_t *file, size_t length, uint64_t out[11]);
 
 /* The number of the column of a name, out[3]; the name is compared as it is. 21 where no column has it, and then out[3] is 0. */
 uint64_t pochahuic_column_named(const uint8_t *file, size_t length, const uint8_t *name, size_t name_length, uint64_t out[4]);
+
+/* The same for whoever opened the file before, and then at no cost to speak of, since this call alone checks nothing: answers the number of the column of a name
+ * in the names line that starts at `names`, which is out[9] of pochahuic_open; 0 where no column has it. Any place may be given: it reads no byte outside the file.
+ * A correction moves no line, so the place holds after it too. */
+uint64_t pochahuic_column_in(const uint8_t *file, size_t length, size_t names, const uint8_t *name, size_t name_length);
 
 /* The name of a column, and its unit, which may be empty, both without the spaces at their ends: the out[4] bytes of the file from out[3] on. Both 0 where
  * refused. */

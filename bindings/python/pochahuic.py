@@ -9,7 +9,7 @@
     file.correct(2, file.column("SALNTY"), 35_130_100, decimals=4, flag=2)
     open("b_hy1.csv", "wb").write(file.bytes())
 
-Rows, columns, profiles and headers count from 1. Every call checks the whole file first.
+Rows, columns, profiles and headers count from 1. Every call but `column` checks the whole file first.
 """
 
 import ctypes
@@ -69,7 +69,7 @@ def _load():
         "correct": [_bytes, _length, _number, _number, ctypes.c_int64, _number, _number, _out],
         "list_line": [_bytes, _length, _millionths, _out],
         "open": [_bytes, _length, _out],
-        "column_named": [_bytes, _length, _bytes, _length, _out],
+        "column_in": [_bytes, _length, _length, _bytes, _length],
         "name": [_bytes, _length, _number, _out],
         "unit": [_bytes, _length, _number, _out],
         "header": [_bytes, _length, _number, _out],
@@ -136,7 +136,7 @@ class File:
     def __init__(self, data):
         data = bytes(data)
         self._length, self._data = len(data), _lent(data)
-        self.check()
+        self._opened = self.open()  # a correction leaves its counts but the missing readings, and its places
 
     def bytes(self):
         return self._data.raw[: self._length]
@@ -201,9 +201,12 @@ class File:
         return Opened(_checked(*counts), headers, names, first)
 
     def column(self, name):
-        """The number of the column of that name, which is compared as it is; Refused with 21 where there is none."""
+        """The number of the column of that name, which is compared as it is; Refused with 21 where there is none. It costs no check of the file."""
         name = name.encode()
-        return self._call("column_named", 4, _lent(name), len(name))[0]
+        column = _library.pochahuic_column_in(self._data, self._length, self._opened.names, _lent(name), len(name))
+        if column == 0:
+            raise Refused(21, 0, 0)
+        return column
 
     def name(self, column):
         """The name of a column."""
@@ -220,15 +223,15 @@ class File:
 
     def names(self):
         """The names of all columns, in order; one call for each."""
-        return [self.name(column) for column in range(1, self.check().columns + 1)]
+        return [self.name(column) for column in range(1, self._opened.checked.columns + 1)]
 
     def units(self):
         """The units of all columns, in order; one call for each."""
-        return [self.unit(column) for column in range(1, self.check().columns + 1)]
+        return [self.unit(column) for column in range(1, self._opened.checked.columns + 1)]
 
     def headers(self):
         """The headers of a CTD file, the values by their names, in order; empty for a bottle file."""
-        if self.check().kind != "CTD":
+        if self._opened.checked.kind != "CTD":
             return {}
         count = int(self.header(1)[1])
         return dict(self.header(k) for k in range(1, count + 1))
@@ -247,7 +250,7 @@ class File:
         """The same as three arrays, row 1 first, which numpy.frombuffer takes without a copy: cases (PRESENT or MISSING), millionths, values.
         Both numbers are 0 where a reading is missing, so look at its case."""
         column = self.column(column) if isinstance(column, str) else column
-        rows = self.check().rows
+        rows = self._opened.checked.rows
         tables = Tables(_table("B", rows), _table("q", rows), _table("d", rows))
         cases, millionths, values = (table.buffer_info() for table in tables)
         self._call("column_values", 4, *_unsigned(column), *cases, *millionths, *values)
@@ -257,7 +260,7 @@ class File:
         """The flags of a whole column, one for each row: by the name of the parameter, whose flags stand in the column NAME_FLAG_W, or by the number
         of the flag column itself."""
         column = self.column(column + "_FLAG_W") if isinstance(column, str) else column
-        flags = _table("B", self.check().rows)
+        flags = _table("B", self._opened.checked.rows)
         self._call("column_flags", 4, *_unsigned(column), *flags.buffer_info())
         return list(flags)
 

@@ -147,6 +147,15 @@ fn report(file: &[u8]) -> Vec<u8> {
     })
 }
 
+/// The column of a name by the call that checks the file; the one that does not must say the same.
+fn named(file: &[u8], name: &[u8]) -> Result<u64, Refusal> {
+    let asked = pochahuic::column_named(file, name);
+    if let Ok(opened) = pochahuic::open(file) {
+        assert_eq!(asked.ok(), pochahuic::column_in(file, opened.names, name));
+    }
+    asked
+}
+
 /// The answer to a request: its words but for the lengths, its file or list line, and the name of those that have one.
 fn answer(words: &[&str], bytes: &mut [u8], name: &[u8]) -> Result<String, Refusal> {
     let number = |index: usize| words[index].parse::<u64>().expect("a number");
@@ -163,7 +172,7 @@ fn answer(words: &[&str], bytes: &mut [u8], name: &[u8]) -> Result<String, Refus
         "flag" => flag(bytes, number(1), number(2))?,
         "profile" => profile(bytes, number(1))?,
         "station" => part("station", pochahuic::station_place(bytes, number(1), name)?),
-        "named" => format!("column {}", pochahuic::column_named(bytes, name)?),
+        "named" => format!("column {}", named(bytes, name)?),
         "name" => part("name", pochahuic::name_place(bytes, number(1))?),
         "unit" => part("unit", pochahuic::unit_place(bytes, number(1))?),
         "header" => {

@@ -58,6 +58,13 @@ extern "C" {
         name_length: usize,
         out: *mut [u64; 4],
     ) -> u64;
+    pub fn pochahuic_column_in(
+        file: *const u8,
+        length: usize,
+        names: usize,
+        name: *const u8,
+        name_length: usize,
+    ) -> u64;
     pub fn pochahuic_name(file: *const u8, length: usize, column: u64, out: *mut [u64; 5]) -> u64;
     pub fn pochahuic_unit(file: *const u8, length: usize, column: u64, out: *mut [u64; 5]) -> u64;
     pub fn pochahuic_header(file: *const u8, length: usize, k: u64, out: *mut [u64; 7]) -> u64;

@@ -1,7 +1,7 @@
 //! Columns by their names, names, units and headers handed out, and a whole column in one call.
 
 use super::c::*;
-use super::{check, checked, part, place, refused, Checked, Reading, Refusal};
+use super::{checked, part, place, refused, Checked, Reading, Refusal};
 use std::ops::Range;
 
 /// A file's counts, and where its parts start in it.
@@ -43,6 +43,13 @@ pub fn column_named(file: &[u8], name: &[u8]) -> Result<u64, Refusal> {
         pochahuic_column_named(file.as_ptr(), file.len(), name.as_ptr(), name.len(), &mut out)
     };
     number(out)
+}
+
+/// The same for whoever opened the file before: in the names line that starts at `names` (`Opened::names`). This call checks nothing, so it costs next to nothing.
+pub fn column_in(file: &[u8], names: usize, name: &[u8]) -> Option<u64> {
+    let column =
+        unsafe { pochahuic_column_in(file.as_ptr(), file.len(), names, name.as_ptr(), name.len()) };
+    (column != 0).then_some(column)
 }
 
 fn number(out: [u64; 4]) -> Result<u64, Refusal> {
@@ -90,13 +97,17 @@ pub fn header_place(file: &[u8], k: u64) -> Result<(Range<usize>, Range<usize>),
     Ok((part(start, length), part(value_start, value_length)))
 }
 
+/// No file has more rows than line feeds, so that tables of so many entries are long enough.
+fn most_rows(file: &[u8]) -> usize {
+    file.iter().filter(|&&byte| byte == b'\n').count()
+}
+
 /// The readings of a measured, LATITUDE, LONGITUDE or DEPTH column, row 1 first.
-///
-/// The file is checked twice, for its rows and for the readings; `column_values_into` checks it once.
 pub fn column_values(file: &[u8], column: u64) -> Result<Vec<Reading>, Refusal> {
-    let rows = check(file)?.rows as usize;
-    let (mut cases, mut millionths, mut values) = (vec![0; rows], vec![0; rows], vec![0.0; rows]);
-    column_values_into(file, column, &mut cases, &mut millionths, &mut values)?;
+    let most = most_rows(file);
+    let (mut cases, mut millionths, mut values) = (vec![0; most], vec![0; most], vec![0.0; most]);
+    let rows = column_values_into(file, column, &mut cases, &mut millionths, &mut values)?;
+    cases.truncate(rows);
     let reading = |((case, millionths), value)| match case {
         PRESENT => Reading::Present { millionths, value },
         _ => Reading::Missing,
@@ -133,10 +144,11 @@ pub fn column_values_into(
     number(out).map(|rows| rows as usize)
 }
 
-/// The flags of a flag column, which is the column given, row 1 first. The file is checked twice, as by `column_values`.
+/// The flags of a flag column, which is the column given, row 1 first.
 pub fn column_flags(file: &[u8], column: u64) -> Result<Vec<u8>, Refusal> {
-    let mut flags = vec![0; check(file)?.rows as usize];
-    column_flags_into(file, column, &mut flags)?;
+    let mut flags = vec![0; most_rows(file)];
+    let rows = column_flags_into(file, column, &mut flags)?;
+    flags.truncate(rows);
     Ok(flags)
 }
 

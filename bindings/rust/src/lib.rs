@@ -1,6 +1,7 @@
 //! Pochahuic from Rust: the proved calls of a WHP-Exchange file, over its C interface.
 //!
-//! Rows, columns, profiles and headers count from 1. Every call on a file checks the whole file first, and answers with the refusal where it is refused.
+//! Rows, columns, profiles and headers count from 1. Every call on a file but `column_in` checks the whole file first, and answers with the refusal where
+//! it is refused.
 
 use c::*;
 use std::fmt;

@@ -1,9 +1,10 @@
 //! Every call on file K of the rules, accepted and refused; headers on a small CTD file.
 
 use pochahuic::{
-    cell, check, column_flags, column_flags_into, column_named, column_values, column_values_into,
-    correct, decimal, flag, header, name, open, profile, read_list_line, station, unit, Checked,
-    Correction, Header, Kind, Opened, Profile, Reading, Refusal, MISSING, PRESENT,
+    cell, check, column_flags, column_flags_into, column_in, column_named, column_values,
+    column_values_into, correct, decimal, flag, header, name, open, profile, read_list_line,
+    station, unit, Checked, Correction, Header, Kind, Opened, Profile, Reading, Refusal, MISSING,
+    PRESENT,
 };
 
 const K: &[u8] = include_bytes!("../../k_hy1.csv");
@@ -111,6 +112,10 @@ fn a_column_is_found_by_its_whole_name() {
         assert_eq!(column_named(K, absent), Err(refusal(21, 0, 0)));
     }
     assert_eq!(column_named(&K[..10], b"SALNTY"), Err(refusal(2, 1, 11)));
+    let names = open(K).unwrap().names;
+    assert_eq!(column_in(K, names, b"SALNTY"), Some(SALNTY));
+    assert_eq!(column_in(K, names, b"SALNT"), None);
+    assert_eq!(column_in(K, K.len() + 1, b"SALNTY"), None);
 }
 
 #[test]

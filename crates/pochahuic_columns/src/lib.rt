@@ -2,8 +2,10 @@
 // crate pochahuic.
 ghost use mathlib.Core.Path.{_≡_};
 ghost use lib.ListN.{length};
+ghost use Rattle.bytes.specs.Cells.{lineAt};
 ghost use Rattle.format.specs.Answers.{readingFor, flaggedOf};
 ghost use Rattle.format.specs.Labels.{namedOf, namePlace, unitPlace, headerFor};
+ghost use Rattle.format.specs.NamesLine.{columnInLine};
 ghost use Rattle.format.specs.Opened.{openedOf};
 ghost use Rattle.format.specs.ReadingNumbers.{readingCase, readMillionths, readValue};
 ghost use Rattle.pochahuic.specs.Numbers.{placeNumbers};
@@ -52,6 +54,14 @@ pub extern "C" fn pochahuic_column_named<'a>(
     let n = exchange::column_named(file, name);
     *out = [n.number, n.line, n.column, n.place];
     n.number
+}
+
+// The number of the column of a name in the names line that starts at `names`, 0 where there is none. It checks nothing: for whoever opened the file before.
+#[no_mangle]
+pub extern "C" fn pochahuic_column_in<'a>(file: &'a [u8], names: usize, name: &'a [u8]) -> u64
+    ensures { λ r. ⌜ r ≡ columnInLine (lineAt (now (file .entry)) names) (now (name .entry)) ⌝ }
+{
+    exchange::column_in(file, names, name)
 }
 
 // Where the name of a column stands: number, line, column, start, length.
