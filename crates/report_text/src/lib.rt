@@ -2,6 +2,7 @@
 ghost use mathlib.Core.Path.{_≡_};
 ghost use mathlib.Core.List.{_++_};
 ghost use lib.ListN.{length, take, drop};
+ghost use Rattle.io.specs.Counts.{Counts};
 ghost use Rattle.pages.specs.Pages.{page, lay};
 ghost use Rattle.report_text.specs.Report.{reportOf};
 ghost use Rattle.report_text.specs.Promises.{ReadSays};
@@ -47,11 +48,12 @@ fn report_first(input: &[u8], n: usize, room: &mut [u8]) -> usize
 }
 
 // Puts the report on the first n bytes of the input at the start of the page and answers its length. Where they were read from a file, it is the report on that
-// file, however long that is.
+// file, however long that is. So many bytes of the page can be lent on (the last clause, which follows from the others).
 pub fn report_page(input: &[u8; INPUT_BYTES], n: usize, room: &mut [u8; PAGE_BYTES]) -> usize
     ensures { λ r. ⌜ r ≡ length (reportOf (take n (now (input .entry)))) ⌝ }
     ensures { λ r. ⌜ now (room .exit) ≡ reportOf (take n (now (input .entry))) ++ drop r (now (room .entry)) ⌝ }
     ensures { λ r. ⌜ ReadSays (now (input .entry)) n ⌝ }
+    ensures { λ r. ⌜ Counts r (now (room .exit)) ⌝ }
 {
     report_first(input, n, room)
 }
