@@ -1,5 +1,5 @@
 pub mod CellLaws
-pub mod CharacterLaws
+pub mod CutLaws
 pub mod DigitLaws
 pub mod EqualLaws
 pub mod EveryLaws

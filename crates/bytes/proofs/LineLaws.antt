@@ -1,20 +1,23 @@
 -- Rules 3, 4 and 5 of a line: the searches by an index, and lines of plain bytes, which break none of them.
-use Prim.Native.Nat.{ℕ, zero, suc, _+_, _≤_, _<_}
+use Prim.Native.Nat.{ℕ, zero, suc, pred, _+_, _-_, _≤_, _<_}
 use mathlib.Core.Path.{_≡_, refl, sym, ap, _∙_}
 use mathlib.Core.List.{List, [], _∷_}
-use mathlib.Core.Bool.{Bool, true, false, and-eq-true-iff}
+use mathlib.Core.Bool.{Bool, true, false, cond, and-eq-true-iff}
 use native.Mathlib.Numerals.{add-one}
-use native.Mathlib.Nat.{add-zero, suc-add, add-suc}
+use native.Mathlib.Nat.{le-refl, add-zero, suc-add, add-suc}
 use native.Mathlib.Omega.{arith}
-use lib.ListN.{length, getD, drop, drop-of-length-le}
-use lib.Seq.{drop-cons, drop-drop}
-use lib.Dec.{leb}
+use lib.ListN.{length, getD, take, drop, length-drop, drop-of-length-le}
+use lib.Seq.{drop-cons, drop-drop, take-all}
+use lib.Dec.{leb, eqb}
 use borrow.Author.Tests.{eq-eqb, ne-eqb, le-ltb, leb-true}
 use Rattle.bytes.specs.Inner.Lines.{isPlain}
 use Rattle.bytes.specs.declared.Found.the-variants.{At, Nowhere}
 use Rattle.bytes.specs.Bytes.{every}
-use Rattle.bytes.specs.Lines.{character, illFrom, illFormed, firstFrom, isReturn, returnAt, isControl, controlAt}
-use Rattle.bytes.proofs.CharacterLaws.{character-ascii}
+use Rattle.bytes.specs.Lines.{illFrom, illFormed, firstFrom, isReturn, returnAt, isControl, controlAt}
+use Rattle.utf8.specs.Syntax.{alternatives, characterIn, character}
+use Rattle.utf8.specs.Rows.{rowsIn}
+use Rattle.utf8.proofs.CharacterLaws.{character-ascii, character-in}
+use Rattle.utf8.proofs.RowLaws.{rows-character}
 use Rattle.bytes.proofs.EveryLaws.{every-cons}
 
 module _ (p : ℕ → Bool) (s : List ℕ) (i : ℕ) where
@@ -47,6 +50,15 @@ step x xs i zero e z = absurd (z refl)
 step x xs i (suc k) e z = rw (e, ne-eqb (suc k) 0 z) (skip (x ∷ xs) i (suc k))
 
 module _ (s : List ℕ) (i : ℕ) where
+  -- the character at i, by a table of the alternatives and the bytes from i on
+  pub character-at : (t : List (List ℕ)) (n : ℕ) → rowsIn t ≡ alternatives → n ≡ characterIn (rowsIn t) (take (length s - i) (drop i s)) → character (drop i s) ≡ n
+  character-at t n e h =
+      let l : length (drop i s) ≤ length s - i = rw length-drop (le-refl _) in
+      rw (take-all (length s - i) (drop i s) l) at (rows-character t _ n e h)
+
+  pub character-room : (n : ℕ) → i < length s → character (drop i s) ≡ n → i + n ≤ length s
+  character-room n h e = omega (arith, e, character-in (drop i s), length-drop i s)
+
   pub ill-end : length s ≤ i → illFrom i 0 (drop i s) ≡ Nowhere
   unfolding illFrom
   ill-end h = rw (drop-of-length-le s h)
@@ -94,3 +106,36 @@ module _ (xs : List ℕ) (e : every isPlain xs ≡ true) where
   plain-no-control =
       plain-first isControl
       (λ x h. rw (le-ltb x 0x20 (plain x h .0), ne-eqb x 0x7f (λ q. omega (arith, plain x h)))) xs 0 e
+
+-- ---- a byte that is found stands in the line
+first-inside : (p : ℕ → Bool) (xs : List ℕ) (i j : ℕ) → firstFrom p i xs ≡ At j → j < i + length xs
+unfolding firstFrom
+first-inside p [] i j e = let z : _≡_ {A = ℕ} 0 1 = cc in absurd (omega arith)
+first-inside p (x ∷ xs) i j e = go (p x) e (first-inside p xs (suc i) j)
+  where
+    go : (b : Bool) → cond b (At i) (firstFrom p (suc i) xs) ≡ At j → (firstFrom p (suc i) xs ≡ At j → j < suc i + length xs) → j < i + suc (length xs)
+    go true e f = let z : i ≡ j = cc in omega arith
+    go false e f = omega (arith, f e)
+
+ill-inside : (xs : List ℕ) (i k j : ℕ) → illFrom i k xs ≡ At j → j < i + length xs
+unfolding illFrom
+ill-inside [] i k j e = let z : _≡_ {A = ℕ} 0 1 = cc in absurd (omega arith)
+ill-inside (x ∷ xs) i (suc k) j e = omega (arith, ill-inside xs (suc i) k j e)
+ill-inside (x ∷ xs) i zero j e = go (eqb (character (x ∷ xs)) 0) (character (x ∷ xs)) e (λ (m : ℕ). ill-inside xs (suc i) m j)
+  where
+    go : (b : Bool) (m : ℕ) → cond b (At i) (illFrom (suc i) (pred m) xs) ≡ At j → ((m : ℕ) → illFrom (suc i) m xs ≡ At j → j < suc i + length xs) → j < i + suc (length xs)
+    go true m e f = let z : i ≡ j = cc in omega arith
+    go false m e f = omega (arith, f _ e)
+
+module _ (x : List ℕ) (j : ℕ) where
+  pub ill-formed-inside : illFormed x ≡ At j → j < length x
+  unfolding illFormed
+  ill-formed-inside e = omega (arith, ill-inside x 0 0 j e)
+
+  pub return-inside : returnAt x ≡ At j → j < length x
+  unfolding returnAt
+  return-inside e = omega (arith, first-inside _ x 0 j e)
+
+  pub control-inside : controlAt x ≡ At j → j < length x
+  unfolding controlAt
+  control-inside e = omega (arith, first-inside _ x 0 j e)

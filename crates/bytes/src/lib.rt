@@ -7,7 +7,6 @@ ghost use Rattle.bytes.specs.Names.{isName, parameterLength, beginsCtd};
 
 pub mod kinds;
 pub mod limits;
-mod lines;
 mod names;
 pub mod refusals;
 mod spaces;
@@ -28,14 +27,10 @@ pub struct Span {
 pub fn ill_formed(line: &[u8]) -> Found
     ensures { λ r. ⌜ r ≡ illFormed (now (line .entry)) ⌝ }
 {
+    let rows = utf8::table();
     let mut i = 0;
     while i < line.len() {
-        let n = lines::character_of(
-            line[i],
-            lines::byte_at(line, i + 1),
-            lines::byte_at(line, i + 2),
-            lines::byte_at(line, i + 3),
-        );
+        let n = utf8::character(&rows, &line[i..]);
         if n == 0 {
             return Found::At(i);
         }

@@ -1,16 +1,16 @@
 -- The line pass: plain bytes up to a line feed break no rule of a line; where another byte stands, the line feed is looked for and the rules are read one by one.
-use Prim.Native.Nat.{ℕ, zero, suc, pred, _+_, _-_, _≤_, _<_}
+use Prim.Native.Nat.{ℕ, _+_, _-_, _≤_, _<_}
 use mathlib.Core.Path.{_≡_, refl, sym}
-use mathlib.Core.List.{List, [], _∷_}
+use mathlib.Core.List.{List}
 use mathlib.Core.Bool.{Bool, true, false, cond, _||_, true≢false}
 use native.Mathlib.Omega.{arith}
 use lib.ListN.{length, getD, take, drop, drop-of-length-le}
-use lib.Dec.{eqb, ltb}
+use lib.Dec.{ltb}
 use borrow.Author.Tests.{ne-eqb, ltb-false, lt-ltb, le-ltb, le-leb, lt-leb}
 use Rattle.bytes.specs.declared.Found.the-variants.{At, Nowhere}
 use Rattle.bytes.specs.Bytes.{every}
 use Rattle.bytes.specs.Cells.{firstPiece, lineAt}
-use Rattle.bytes.specs.Lines.{character, illFrom, illFormed, firstFrom, returnAt, controlAt}
+use Rattle.bytes.specs.Lines.{illFormed, returnAt, controlAt}
 use Rattle.bytes.specs.Inner.Scans.{Scan}
 use Rattle.bytes.proofs.CellLaws.{line-in, line-end, scan-undo}
 use Rattle.bytes.specs.Inner.Lines.{isPlain}
@@ -96,39 +96,6 @@ module _ (control : Bool) (s : List ℕ) (i e : ℕ) (d : e ≡ i + length (line
         rw (u, piece-take, sym d, lt-ltb e (length s) h, le-leb (length (lineAt s i)) 8192 (omega arith))
 
 -- ---- rules 3, 4 and 5
-first-inside : (p : ℕ → Bool) (xs : List ℕ) (i j : ℕ) → firstFrom p i xs ≡ At j → j < i + length xs
-unfolding firstFrom
-first-inside p [] i j e = let z : _≡_ {A = ℕ} 0 1 = cc in absurd (omega arith)
-first-inside p (x ∷ xs) i j e = go (p x) e (first-inside p xs (suc i) j)
-  where
-    go : (b : Bool) → cond b (At i) (firstFrom p (suc i) xs) ≡ At j → (firstFrom p (suc i) xs ≡ At j → j < suc i + length xs) → j < i + suc (length xs)
-    go true e f = let z : i ≡ j = cc in omega arith
-    go false e f = omega (arith, f e)
-
-ill-inside : (xs : List ℕ) (i k j : ℕ) → illFrom i k xs ≡ At j → j < i + length xs
-unfolding illFrom
-ill-inside [] i k j e = let z : _≡_ {A = ℕ} 0 1 = cc in absurd (omega arith)
-ill-inside (x ∷ xs) i (suc k) j e = omega (arith, ill-inside xs (suc i) k j e)
-ill-inside (x ∷ xs) i zero j e = go (eqb (character (x ∷ xs)) 0) (character (x ∷ xs)) e (λ (m : ℕ). ill-inside xs (suc i) m j)
-  where
-    go : (b : Bool) (m : ℕ) → cond b (At i) (illFrom (suc i) (pred m) xs) ≡ At j → ((m : ℕ) → illFrom (suc i) m xs ≡ At j → j < suc i + length xs) → j < i + suc (length xs)
-    go true m e f = let z : i ≡ j = cc in omega arith
-    go false m e f = omega (arith, f _ e)
-
--- a byte that is found stands in the line
-module _ (x : List ℕ) (j : ℕ) where
-  pub ill-formed-inside : illFormed x ≡ At j → j < length x
-  unfolding illFormed
-  ill-formed-inside e = omega (arith, ill-inside x 0 0 j e)
-
-  pub return-inside : returnAt x ≡ At j → j < length x
-  unfolding returnAt
-  return-inside e = omega (arith, first-inside _ x 0 j e)
-
-  pub control-inside : controlAt x ≡ At j → j < length x
-  unfolding controlAt
-  control-inside e = omega (arith, first-inside _ x 0 j e)
-
 module _ (control : Bool) (x : List ℕ) (e j : ℕ) where
   pub bytes-ill-formed : illFormed x ≡ At j → _≡_ {A = Line} (record { end = 0; number = 3; column = j + 1 }) (lineFor (byteFault control x) e)
   unfolding byteFault byteRules firstOf

@@ -1,7 +1,8 @@
 use mathlib.Core.Path.{_∙_, sym}
 use mathlib.Core.Bool.{true≢false}
 use native.Mathlib.Omega.{arith}
-use Rattle.lines.proofs.LinePassLaws.{ill-formed-inside, return-inside, control-inside, bytes-ill-formed, bytes-return, bytes-control, bytes-clean}
+use Rattle.bytes.proofs.LineLaws.{ill-formed-inside, return-inside, control-inside}
+use Rattle.lines.proofs.LinePassLaws.{bytes-ill-formed, bytes-return, bytes-control, bytes-clean}
 use borrow.Author.Needs.{needs}
 use Rattle.lines.proofs.byte_rules.Statement.{statement}
 use Rattle.lines.proofs.byte_rules.Tie as tie
