@@ -27,6 +27,13 @@ const WELL_FORMED_AT_THE_LIMITS: [&[u8]; 16] = [
     b"\xf4\x8f\xbf\xbf",
 ];
 
+/// The bounds of the first bytes in that table, and the bytes beside them that
+/// begin no character.
+const FIRST_AT_A_BOUND: [u8; 14] =
+    [0xc1, 0xc2, 0xdf, 0xe0, 0xe1, 0xec, 0xed, 0xee, 0xef, 0xf0, 0xf1, 0xf3, 0xf4, 0xf5];
+/// The bounds of the later bytes, and the bytes beside them.
+const LATER_AT_A_BOUND: [u8; 8] = [0x7f, 0x80, 0x8f, 0x90, 0x9f, 0xa0, 0xbf, 0xc0];
+
 pub fn spoil_line(random: &mut Random, lines: &mut Vec<Text>, rule: u8) {
     match rule {
         1 => stretch_a_line(random, lines),
@@ -104,13 +111,26 @@ fn stretch_a_line(random: &mut Random, lines: &mut Vec<Text>) {
 /// 3: ill-formed UTF-8, and well-formed sequences close to it.
 fn insert_sequence(random: &mut Random, lines: &mut Vec<Text>) {
     let line = any_line(random, lines);
-    if random.one_in(4) {
-        let sequence = random.pick(&WELL_FORMED_AT_THE_LIMITS);
-        insert(random, line, sequence);
-    } else {
-        let sequence = random.pick(&ILL_FORMED);
-        insert(random, line, sequence);
-    }
+    let sequence = match random.below(4) {
+        0 => random.pick(&WELL_FORMED_AT_THE_LIMITS).to_vec(),
+        1 => sequence_at_the_bounds(random),
+        _ => random.pick(&ILL_FORMED).to_vec(),
+    };
+    insert(random, line, &sequence);
+}
+
+/// As many bytes as the first one asks for, each at a bound of its range or
+/// beside it.
+fn sequence_at_the_bounds(random: &mut Random) -> Vec<u8> {
+    let first = random.pick(&FIRST_AT_A_BOUND);
+    let later = match first {
+        ..=0xdf => 1,
+        0xe0..=0xef => 2,
+        _ => 3,
+    };
+    let mut sequence = vec![first];
+    sequence.extend((0..later).map(|_| random.pick(&LATER_AT_A_BOUND)));
+    sequence
 }
 
 fn insert_carriage_return(random: &mut Random, lines: &mut Vec<Text>) {
