@@ -39,7 +39,7 @@ takes-first bs n xs e =
     ap (λ (k : ℕ). takes (rangesAt bs 1 k) xs) m
 
 module _ (bs : List ℕ) (n : ℕ) (xs : List ℕ) (j : ℕ) where
-  pub takes-step : j < n → j < length xs → takesFrom bs n xs j ≡ (within (to (getD bs (2 * j + 1) 0) (getD bs (2 * j + 2) 0)) (getD xs j 0) && takesFrom bs n xs (j + 1))
+  takes-step : j < n → j < length xs → takesFrom bs n xs j ≡ (within (to (getD bs (2 * j + 1) 0) (getD bs (2 * j + 2) 0)) (getD xs j 0) && takesFrom bs n xs (j + 1))
   unfolding rangesAt
   takes-step h l =
       let e : n - j ≡ suc (n - (j + 1)) = omega arith in

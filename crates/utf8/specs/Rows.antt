@@ -5,7 +5,7 @@ use mathlib.Core.List.{List, [], _∷_, _++_, map}
 use lib.ListN.{length, getD, replicate}
 use Rattle.utf8.specs.Syntax.{Range, to}
 
--- rows laid out as a table
+-- rows laid out as a table: a row's bounds, and each row
 abbrev pub bounds : List Range → List ℕ
 bounds [] = []
 bounds (r ∷ rs) = r .low ∷ r .high ∷ bounds rs
@@ -13,7 +13,7 @@ bounds (r ∷ rs) = r .low ∷ r .high ∷ bounds rs
 abbrev pub laid : List (List Range) → List (List ℕ)
 laid rows = map (λ (a : List Range). length a ∷ bounds a ++ replicate (8 - 2 * length a) 0) rows
 
--- and the rows that stand in any table, nine: of a row n ranges, the bounds of the first at p
+-- the rows that stand in any table: n ranges of a row, the bounds of the first at p
 unfoldable pub rangesAt : List ℕ → ℕ → ℕ → List Range
 rangesAt bs p zero = []
 rangesAt bs p (suc n) = to (getD bs p 0) (getD bs (p + 1) 0) ∷ rangesAt bs (p + 2) n
@@ -21,7 +21,7 @@ rangesAt bs p (suc n) = to (getD bs p 0) (getD bs (p + 1) 0) ∷ rangesAt bs (p 
 unfoldable pub rowIn : List ℕ → List Range
 rowIn bs = rangesAt bs 1 (min (getD bs 0 0) 4)
 
--- n rows, from number k on, counted from 0
+-- n rows, from number k on, counted from 0; a table has nine
 unfoldable pub rowsFrom : List (List ℕ) → ℕ → ℕ → List (List Range)
 rowsFrom t k zero = []
 rowsFrom t k (suc n) = rowIn (getD t k []) ∷ rowsFrom t (k + 1) n

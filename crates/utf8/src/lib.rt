@@ -71,6 +71,7 @@ fn length_of(row: &[u8; 9]) -> usize
     }
 }
 
+// Whether a byte is one of a range.
 fn within(low: u8, high: u8, x: u8) -> bool
     ensures { λ r. ⌜ r ≡ within (to low high) x ⌝ }
 {
