@@ -10,6 +10,7 @@ use crate::list_line;
 use crate::protocol::{read_request, Request, MOST_BYTES_OF_A_REQUEST};
 use crate::refusal::Refusal;
 use crate::report::report;
+use crate::walk::{walk, WalkedCell};
 use crate::whole_columns::{column_flags, column_values, Tables};
 use std::io::{self, BufRead, Write};
 use std::ops::Range;
@@ -49,6 +50,7 @@ pub fn answer(request: &Request, bytes: &[u8]) -> String {
         Request::Rows { column } => answer_rows(bytes, column),
         Request::Column { column } => labels::column(bytes, column)
             .map(|(kind, flag_column)| format!("column {kind} {flag_column}")),
+        Request::Walk => answer_walk(bytes),
         Request::Correct(correction) => correct(bytes, &correction)
             .map(|corrected| format!("applied {:08x}", crc32(&corrected))),
         Request::Line => answer_line(bytes),
@@ -154,6 +156,15 @@ fn answer_rows(file: &[u8], column: u64) -> Result<String, Refusal> {
         }
     }
     Ok(format!("rows {} {:08x}", exchange.rows.len(), crc32(lines.as_bytes())))
+}
+
+/// A line for each cell that the walk hands out.
+fn answer_walk(file: &[u8]) -> Result<String, Refusal> {
+    let line = |WalkedCell { row, column, part }| {
+        format!("{row} {column} {} {}\n", part.start, part.len())
+    };
+    let lines: Vec<String> = walk(file)?.map(line).collect();
+    Ok(format!("walk {} {:08x}", lines.len(), crc32(lines.concat().as_bytes())))
 }
 
 fn answer_line(bytes: &[u8]) -> Result<String, Refusal> {

@@ -1,6 +1,6 @@
 //! Makes requests from a seed: valid files, files spoilt by rule, calls at the
-//! edges, names, whole columns, list lines, and sequences of corrections. The same seed and count
-//! give the same bytes.
+//! edges, names, whole columns, files to walk, list lines, and sequences of
+//! corrections. The same seed and count give the same bytes.
 
 mod columns;
 mod draft;
@@ -11,6 +11,7 @@ mod spoil;
 mod spoil_lines;
 mod valid;
 mod values;
+mod walks;
 
 use crate::check::{check, FileKind};
 use crate::correct::{correct, flag_column_of};
@@ -23,7 +24,7 @@ pub fn generate(seed: u64, count: usize, output: &mut impl Write) -> io::Result<
     let mut random = Random::from_seed(seed);
     let mut requests = Requests { output, left: count };
     while requests.left > 0 {
-        match random.below(1_000) {
+        match random.below(1_060) {
             0..=119 => read_valid_file(&mut random, &mut requests)?,
             120..=179 => correct_file(&mut random, &mut requests)?,
             180..=689 => read_spoilt_file(&mut random, &mut requests)?,
@@ -32,7 +33,8 @@ pub fn generate(seed: u64, count: usize, output: &mut impl Write) -> io::Result<
             970..=982 => read_file_at_a_limit(&mut random, &mut requests)?,
             983..=993 => read_tiny_file(&mut random, &mut requests)?,
             994..=996 => read_file_of_exact_size(&mut random, &mut requests)?,
-            _ => read_large_file(&mut random, &mut requests)?,
+            997..=999 => read_large_file(&mut random, &mut requests)?,
+            _ => walk_file(&mut random, &mut requests)?,
         }
     }
     Ok(())
@@ -94,11 +96,12 @@ fn correct_file<O: Write>(random: &mut Random, requests: &mut Requests<O>) -> io
         requests.add(Request::Correct(correction), &file)?;
         let Ok(corrected) = correct(&file, &correction) else { continue };
         let (row, column) = (correction.row, correction.column);
-        match random.below(6) {
+        match random.below(7) {
             0 | 1 => requests.add(Request::Decimal { row, column }, &corrected)?,
             2 => requests.add(Request::Cell { row, column }, &corrected)?,
             3 => requests.add(Request::Report, &corrected)?,
             4 => requests.add(columns::exact_values(&exchange, column), &corrected)?,
+            5 => requests.add(Request::Walk, &corrected)?,
             _ => {}
         }
         if let Some(column) = flag_column_of(&exchange, column).filter(|_| random.one_in(3)) {
@@ -192,7 +195,8 @@ fn read_file_of_exact_size<O: Write>(
     let file = limits::file_of_size(random);
     let cell = Request::Cell { row: 1, column: 1 };
     let named = Request::Named { name: b"SALNTY"[..random.below(3)].to_vec() };
-    let choices = [Request::Report, Request::Report, Request::Check, Request::Line, cell, named];
+    let (report, walk) = (Request::Report, Request::Walk);
+    let choices = [report.clone(), report, Request::Check, Request::Line, cell, named, walk];
     requests.add(random.pick(&choices), &file)
 }
 
@@ -204,9 +208,23 @@ fn read_large_file<O: Write>(random: &mut Random, requests: &mut Requests<O>) ->
     let size = random.pick(&[3_000, 10_000, 10_000, 30_000, 60_000, 100_000]);
     let file = limits::large(random, size).bytes();
     add_readings(random, requests, &file, 2)?;
+    requests.add(Request::Walk, &file)?;
     if let Ok(exchange) = check(&file) {
         let correction = requests::correction(random, &exchange);
         requests.add(Request::Correct(correction), &file)?;
     }
     Ok(())
+}
+
+/// A walk; and as often as not the cells of one of its columns by single calls.
+fn walk_file<O: Write>(random: &mut Random, requests: &mut Requests<O>) -> io::Result<()> {
+    let file = walks::file_to_walk(random);
+    requests.add(Request::Walk, &file)?;
+    match check(&file) {
+        Ok(exchange) if random.one_in(2) => {
+            let column = random.between(1, exchange.columns.len()) as u64;
+            requests.add(Request::Rows { column }, &file)
+        }
+        _ => Ok(()),
+    }
 }

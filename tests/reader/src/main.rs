@@ -22,6 +22,7 @@ mod refusal;
 mod report;
 #[cfg(test)]
 mod samples;
+mod walk;
 mod whole_columns;
 
 use check::FileKind;

@@ -30,6 +30,7 @@ pub enum Request {
     Flags { column: u64, entries: usize },
     Rows { column: u64 },
     Column { column: u64 },
+    Walk,
     Correct(Correction),
     Line,
     Report,
@@ -63,6 +64,7 @@ impl Request {
             "flags" => (Request::Flags { column: unsigned(0)?, entries: entries(1)? }, 2),
             "rows" => (Request::Rows { column: unsigned(0)? }, 1),
             "column" => (Request::Column { column: unsigned(0)? }, 1),
+            "walk" => (Request::Walk, 0),
             "correct" => (Request::Correct(parse_correction(numbers)?), 5),
             "line" => (Request::Line, 0),
             "report" => (Request::Report, 0),
@@ -92,6 +94,7 @@ impl Request {
             Request::Flags { column, entries } => format!("flags {column} {entries} {length}"),
             Request::Rows { column } => format!("rows {column} {length}"),
             Request::Column { column } => format!("column {column} {length}"),
+            Request::Walk => format!("walk {length}"),
             Request::Correct(Correction { row, column, millionths, decimals, flag }) => {
                 format!("correct {row} {column} {millionths} {decimals} {flag} {length}")
             }

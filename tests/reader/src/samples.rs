@@ -1,5 +1,5 @@
 //! The bench samples of document 01, its listing of the report on file K, the
-//! samples of its readings, and the calls on names and columns, by hand.
+//! samples of its readings, the calls on names and columns, and walks, by hand.
 
 use crate::calls::{self, Reading};
 use crate::check::check;
@@ -10,6 +10,7 @@ use crate::labels;
 use crate::list_line;
 use crate::refusal::Refusal;
 use crate::report::report;
+use crate::walk::{walk, WalkedCell};
 use crate::whole_columns::{column_flags, column_values, Tables};
 
 const FILE_K: &str = "\
@@ -177,4 +178,35 @@ fn whole_columns_of_k() {
     assert_eq!(flags, [2, 9, 2, 77]);
     assert_eq!(column_flags(file, 9, &mut flags[..2]), Err(Refusal::without_place(29)));
     assert_eq!(column_flags(file, 8, &mut flags), Err(Refusal::without_place(22)));
+}
+
+#[test]
+fn walk_of_k() {
+    let file = FILE_K.as_bytes();
+    let cells: Vec<WalkedCell> = walk(file).ok().unwrap().collect();
+    assert_eq!(cells.len(), 27);
+    assert_eq!(cells[0], WalkedCell { row: 1, column: 1, part: 140..152 });
+    assert_eq!(cells[5], WalkedCell { row: 1, column: 6, part: 177..184 });
+    assert_eq!(cells[26], WalkedCell { row: 3, column: 9, part: 328..329 });
+    for WalkedCell { row, column, part } in cells {
+        assert_eq!(calls::cell(file, row as u64, column as u64), Ok(part));
+    }
+}
+
+#[test]
+fn walks_of_blank_cells_and_of_refused_files() {
+    let headers = "CTD\nNUMBER_HEADERS=7\nEXPOCODE=A\nSTNNBR=1\nCASTNO=1\nDATE=20240101\n\
+                   LATITUDE=0\nLONGITUDE=0\n";
+    let rows = "CTDPRS,SECT\n,\n 1 ,   \n2,\n3, a  b \nEND_DATA\n4,x\n";
+    let parts = |file: &str| {
+        let cells = walk(file.as_bytes())?;
+        let parts = cells.map(|cell| (cell.part.start - headers.len(), cell.part.len()));
+        Ok(parts.collect::<Vec<(usize, usize)>>())
+    };
+    let walked = parts(&[headers, rows].concat());
+    assert_eq!(walked, Ok(vec![(15, 1), (18, 0), (22, 1), (24, 0), (25, 1), (28, 4)]));
+    let blank_pressure = rows.replacen("3,", " ,", 1);
+    let refused = parts(&[headers, &blank_pressure].concat());
+    assert_eq!(refused, Err(Refusal { number: 17, line: 13, column: 1 }));
+    assert_eq!(parts(""), Err(Refusal { number: 14, line: 1, column: 1 }));
 }

@@ -1,5 +1,6 @@
 //! The calls on names, units and headers, on whole columns and on a file row
-//! by row: each aims at what its words promise and at the edges of that.
+//! by row or cell by cell: each aims at what its words promise and at the edges
+//! of that.
 
 use super::requests::{column_of, edge, usual};
 use super::valid::random_name;
@@ -11,7 +12,7 @@ use crate::random::Random;
 /// Any of these calls, with what it asks for on an accepted file.
 pub fn asking(random: &mut Random, exchange: &Exchange) -> Request {
     let any_column = usual(random, exchange.columns.len(), 3);
-    match random.below(25) {
+    match random.below(27) {
         0 => Request::Open,
         1..=4 => {
             let names: Vec<&[u8]> = exchange.columns.iter().map(|column| column.name).collect();
@@ -27,6 +28,7 @@ pub fn asking(random: &mut Random, exchange: &Exchange) -> Request {
         17..=19 => flags(random, exchange, any_column),
         20..=22 => Request::Rows { column: column_to_read(random, exchange, any_column) },
         23 => Request::Column { column: column_to_read(random, exchange, any_column) },
+        24 | 25 => Request::Walk,
         _ => Request::Column { column: any_column },
     }
 }
@@ -35,7 +37,7 @@ pub fn asking(random: &mut Random, exchange: &Exchange) -> Request {
 pub fn asking_of_refused(random: &mut Random) -> Request {
     let (column, k) = (edge(random, 8), edge(random, 1));
     let name = random.pick(&STATION_NAMES).as_bytes().to_vec();
-    match random.below(10) {
+    match random.below(12) {
         0 => Request::Open,
         1 => Request::Named { name },
         2 => Request::Name { column },
@@ -45,7 +47,8 @@ pub fn asking_of_refused(random: &mut Random) -> Request {
         6 => Request::Values { column, entries: [0, 1, 2].map(|_| random.below(4)) },
         7 => Request::Flags { column, entries: random.below(4) },
         8 => Request::Rows { column },
-        _ => Request::Column { column },
+        9 => Request::Column { column },
+        _ => Request::Walk,
     }
 }
 
