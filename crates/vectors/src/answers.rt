@@ -20,6 +20,7 @@ use crate::request::number_in;
 use crate::request::signed_in;
 use crate::tables::answer_flags;
 use crate::tables::answer_values;
+use crate::walks::answer_walk;
 use correction::Answer;
 use correction::Order;
 use exchange::CastTime;
@@ -134,7 +135,7 @@ fn answer_report(
     field(out, b, n as u64)
 }
 
-// The answer to a request on names or columns.
+// The answer to a request on names or columns, or for a walk.
 fn put_column_answer(
     head: &[u8; 256],
     file: &[u8],
@@ -153,6 +154,7 @@ fn put_column_answer(
         ColumnCall::Flags => answer_flags(head, file, table, out, from),
         ColumnCall::Rows => answer_rows(file, n, page, table, out, from),
         ColumnCall::Column => answer_column(file, n, out, from),
+        ColumnCall::Walk => answer_walk(file, page, table, out, from),
         ColumnCall::Unknown => put(out, from, b"unknown"),
     }
 }

@@ -1,5 +1,5 @@
 // Answers the requests on standard input, one line each: check, cell, decimal, flag, profile, correct, line, report; open, named, name, unit, header, station, values,
-// flags, rows, column. A request is a line with its numbers, then a block of bytes and a line feed, of a file or a list line; named and station have a second one, the
+// flags, rows, column; walk. A request is a line with its numbers, then a block of bytes and a line feed, of a file or a list line; named and station have a second one, the
 // name. The last numbers of the line are the lengths of the blocks.
 use crate::answers::answer;
 use crate::input::read_bytes;
@@ -18,6 +18,7 @@ mod named;
 mod puts;
 mod request;
 mod tables;
+mod walks;
 
 // The most requests that are answered.
 const MOST_REQUESTS: u64 = 1099511627776;

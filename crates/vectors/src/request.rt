@@ -14,7 +14,7 @@ pub enum Call {
     Other,
 }
 
-// What is asked of a file's names and columns.
+// What is asked of a file's names and columns, and a walk over its cells.
 pub enum ColumnCall {
     Open,
     Name,
@@ -24,6 +24,7 @@ pub enum ColumnCall {
     Flags,
     Rows,
     Column,
+    Walk,
     Unknown,
 }
 
@@ -104,6 +105,9 @@ pub fn column_call_of(head: &[u8]) -> ColumnCall {
     }
     if text::same(word, b"column") {
         return ColumnCall::Column;
+    }
+    if text::same(word, b"walk") {
+        return ColumnCall::Walk;
     }
     ColumnCall::Unknown
 }
