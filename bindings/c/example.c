@@ -1,5 +1,5 @@
-/* Reads an exchange file through pochahuic.h, by the names of its columns: its counts, profiles and salinities, corrections, and a refusal with its line and
- * column. */
+/* Reads an exchange file through pochahuic.h, by the names of its columns: its counts, profiles and salinities, corrections, its rows after them, and a refusal
+ * with its line and column. */
 #include <inttypes.h>
 #include <stdio.h>
 #include <stdlib.h>
@@ -117,6 +117,17 @@ static void correct(size_t length, const char *line)
         print_corrected(length, order[1], column, name, order[3]);
 }
 
+/* The rows as an importer takes them: every cell without the spaces at its ends, in one walk. */
+static void print_rows(size_t length, uint64_t columns)
+{
+    uint64_t cursor[10];
+    for (pochahuic_walk_open(file, length, cursor); cursor[5] != 0; pochahuic_walk_next(file, length, cursor)) {
+        if (cursor[6] == 1)
+            printf("row %" PRIu64 ": ", cursor[5]);
+        printf("%.*s%c", (int)cursor[4], (const char *)file + cursor[3], cursor[6] == columns ? '\n' : ',');
+    }
+}
+
 int main(int count, char **words)
 {
     FILE *in = count == 2 ? fopen(words[1], "rb") : NULL;
@@ -141,6 +152,7 @@ int main(int count, char **words)
     correct(length, "3\tCTDPRS\t10.8\t0\n");
     correct(length, "1\tSALNT\t35.1301\t2\n");
     correct(length, "1\tSALNTY\t-999.0000\t9\n");
+    print_rows(length, checked[4]);
 
     /* a blank salinity is refused, with its place */
     if (pochahuic_cell(file, length, 1, column_of(length, "SALNTY", strlen("SALNTY"), named), cell) == 0)

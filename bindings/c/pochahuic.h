@@ -3,16 +3,19 @@
  * Link target/libpochahuic.a (x86-64 Linux), which `bash bindings/archive` writes. Nothing is allocated, nothing is kept between calls, and
  * calls may be made from several threads at once as long as no two of them share a lent array or a file that one of them corrects.
  *
- * Every call on a file but pochahuic_column_in checks the whole file first. What each call answers is proved for every file and every number; what it asks of the caller is C's own:
+ * Every call on a file but pochahuic_column_in and pochahuic_walk_next checks the whole file first. What each call answers is proved for every file and every
+ * number; what it asks of the caller is C's own:
  * - file, name and their lengths: that many bytes that can be read (written, for pochahuic_correct), no null pointer even where the length is 0;
  * - out, millionths, value: arrays and numbers of exactly the sizes shown, which can be written and which share no byte with each other or with the file;
- * - tables (of pochahuic_column_values and pochahuic_column_flags): that many entries, likewise, no null pointer even where the length is 0.
- * All of out, *millionths and *value are written at every call; what they held before has no meaning. Of a table only the entries of the rows are written, and
- * none where the call is refused.
+ * - tables (of pochahuic_column_values and pochahuic_column_flags): that many entries, likewise, no null pointer even where the length is 0;
+ * - cursor (of pochahuic_walk_open and pochahuic_walk_next): ten numbers, likewise, which pochahuic_walk_next reads too.
+ * All of out, cursor, *millionths and *value are written at every call; what they held before has no meaning, but that pochahuic_walk_next takes its cursor as the
+ * call before left it. Of a table only the entries of the rows are written, and none where the call is refused.
  *
  * Lines, columns, rows, profiles and headers count from 1; starts of parts count bytes from 0 at the file's start.
- * out[0], out[1], out[2] are the refusal number, the line and the byte column of what is refused: 0 each where nothing is, line and column 0 from 21 on.
- * A call answers out[0] again, but for pochahuic_decimal, whose answer says which reading it is, and pochahuic_column_in, which has no out.
+ * out[0], out[1], out[2] are the refusal number, the line and the byte column of what is refused: 0 each where nothing is, line and column 0 from 21 on; so
+ * are cursor[0], cursor[1], cursor[2].
+ * A call answers out[0] or cursor[0] again, but for pochahuic_decimal, whose answer says which reading it is, and pochahuic_column_in, which has neither.
  */
 #ifndef POCHAHUIC_H
 #define POCHAHUIC_H
@@ -91,6 +94,23 @@ uint64_t pochahuic_column_values(const uint8_t *file, size_t length, uint64_t co
 
 /* Reads a whole flag column, which is the column given, likewise: entry r - 1 is row r's flag, 1 to 9. out[3]: the rows, or 0 where refused. */
 uint64_t pochahuic_column_flags(const uint8_t *file, size_t length, uint64_t column, uint8_t *flags, size_t flags_length, uint64_t out[4]);
+
+/* Walk a file cell by cell, row by row from the left, each cell once, with one check in all:
+ *
+ *     uint64_t cursor[10];
+ *     for (pochahuic_walk_open(file, length, cursor); cursor[5] != 0; pochahuic_walk_next(file, length, cursor))
+ *         take(cursor[5], cursor[6], file + cursor[3], cursor[4]);
+ *
+ * pochahuic_walk_open checks the file and stands on its first cell, or is at the end at once where the file is refused. pochahuic_walk_next checks nothing and
+ * goes on to the next cell. cursor[3] and [4]: the cell's start and length, without the spaces at its ends, as pochahuic_cell gives them; [5] its row; [6] its
+ * column; [7] where it ends with its spaces. After the last cell, and ever after, these five are 0. What stays ever after: [0], [1] and [2], the file's refusal;
+ * [8] and [9], its rows and columns, 0 where it is refused.
+ * The file is the one that was opened, at every step. A correction in between moves no cell, but may change which spaces are trimmed: cells still to come are
+ * given as corrected, while [3] and [4] stay as they were.
+ * Any cursor may be given: pochahuic_walk_next reads no byte outside the file, the part that it leaves lies inside the file, and the walk ends after length + 1
+ * steps at the most; which cells it gives is said only of a cursor that these calls made. */
+uint64_t pochahuic_walk_open(const uint8_t *file, size_t length, uint64_t cursor[10]);
+uint64_t pochahuic_walk_next(const uint8_t *file, size_t length, uint64_t cursor[10]);
 
 /* What a refusal number says, in one sentence; of every other number, 0 too, the empty text. */
 static inline const char *pochahuic_message(uint64_t number)

@@ -1,5 +1,7 @@
-"""Reads an exchange file by the names of its columns: its counts, profiles and salinities, corrections, and a refusal with its line and column."""
+"""Reads an exchange file by the names of its columns: its counts, profiles and salinities, corrections, its rows after them, and a refusal with its line and
+column."""
 
+import itertools
 import sys
 
 import pochahuic
@@ -39,6 +41,10 @@ def main(path):
     correct(file, b"3\tCTDPRS\t10.8\t0\n")
     correct(file, b"1\tSALNT\t35.1301\t2\n")
     correct(file, b"1\tSALNTY\t-999.0000\t9\n")
+
+    # the rows as an importer takes them: every cell without the spaces at its ends, in one walk
+    for row, cells in itertools.groupby(file.walk(), lambda cell: cell.row):
+        print("row %d: %s" % (row, ",".join(cell.text.decode() for cell in cells)))
 
     # a blank salinity is refused, with its place
     start, length = file.place(1, salinity)

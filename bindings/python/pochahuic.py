@@ -6,10 +6,11 @@
     file.flags("SALNTY")                                        # its flags, from the column SALNTY_FLAG_W
     file.column("SALNTY")                                       # the number of the column, for the calls on single cells
     file.decimal(2, file.column("SALNTY"))
+    list(file.walk())                                           # every cell with its row and column, row by row from the left
     file.correct(2, file.column("SALNTY"), 35_130_100, decimals=4, flag=2)
     open("b_hy1.csv", "wb").write(file.bytes())
 
-Rows, columns, profiles and headers count from 1. Every call but `column` checks the whole file first.
+Rows, columns, profiles and headers count from 1. Every call but `column` checks the whole file first; `walk` does so once for all its cells.
 """
 
 import ctypes
@@ -75,6 +76,8 @@ def _load():
         "header": [_bytes, _length, _number, _out],
         "column_values": [_bytes, _length, _number, _bytes, _length, _bytes, _length, _bytes, _length, _out],
         "column_flags": [_bytes, _length, _number, _bytes, _length, _out],
+        "walk_open": [_bytes, _length, _out],
+        "walk_next": [_bytes, _length, _out],
     }.items():
         call = getattr(library, "pochahuic_" + name)
         call.argtypes, call.restype = arguments, ctypes.c_uint64
@@ -98,6 +101,7 @@ Profile = namedtuple("Profile", "first rows castno date time")
 Correction = namedtuple("Correction", "row name millionths decimals flag")
 Opened = namedtuple("Opened", "checked headers names first")
 Tables = namedtuple("Tables", "cases millionths values")
+Cell = namedtuple("Cell", "row column text")
 
 # The cases of a table of readings.
 PRESENT, MISSING = 0, 1
@@ -263,6 +267,14 @@ class File:
         flags = _table("B", self._opened.checked.rows)
         self._call("column_flags", 4, *_unsigned(column), *flags.buffer_info())
         return list(flags)
+
+    def walk(self):
+        """The cells of the whole file as a generator, row by row from the left, each once: Cell(row, column, text), the text as `cell` gives it. The file is
+        checked once, before the first. A correction made while walking moves no cell: each is given as it stands when it is asked for."""
+        cursor = (ctypes.c_uint64 * 10)(0, 0, 0, *self._call("walk_open", 10))
+        while cursor[5] != 0:
+            yield Cell(cursor[5], cursor[6], self._part(*cursor[3:5]))
+            _library.pochahuic_walk_next(self._data, self._length, cursor)
 
 
 def read_list_line(line):

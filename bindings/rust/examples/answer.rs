@@ -1,7 +1,7 @@
 //! Answers the requests of the comparison (tests/reader) over the C interface: standard input to standard output. The report, and what the requests `rows` and
 //! `column` ask, which no call of the C interface hands out, are put together from the calls.
 
-use pochahuic::{Checked, Correction, Kind, Reading, Refusal};
+use pochahuic::{Cell, Checked, Correction, Kind, Reading, Refusal};
 use std::io::{self, BufRead, Write};
 use std::ops::Range;
 
@@ -76,6 +76,22 @@ fn flags(file: &[u8], column: u64, entries: usize) -> String {
     let read = pochahuic::column_flags_into(file, column, &mut flags);
     let said = or_refusal(read.map(|rows| format!("flags {rows}")));
     format!("{said} {:08x}", crc(&flags))
+}
+
+/// Where a part of some bytes starts in them.
+fn start(part: &[u8], bytes: &[u8]) -> usize {
+    part.as_ptr() as usize - bytes.as_ptr() as usize
+}
+
+/// How many cells the walk says it will hand out, and those that it does.
+fn walk(file: &[u8]) -> Result<String, Refusal> {
+    let cells = pochahuic::walk(file)?;
+    let count = cells.len();
+    let mut lines = String::new();
+    for Cell { row, column, text } in cells {
+        lines += &format!("{row} {column} {} {}\n", start(text, file), text.len());
+    }
+    Ok(format!("walk {count} {:08x}", crc(lines.as_bytes())))
 }
 
 /// Row by row, the answers to the single requests.
@@ -181,6 +197,7 @@ fn answer(words: &[&str], bytes: &mut [u8], name: &[u8]) -> Result<String, Refus
         }
         "values" => values(bytes, number(1), [entries(2), entries(3), entries(4)]),
         "flags" => flags(bytes, number(1), entries(2)),
+        "walk" => walk(bytes)?,
         "rows" => rows(bytes, number(1))?,
         "column" => column(bytes, number(1))?,
         "correct" => {
@@ -199,8 +216,8 @@ fn answer(words: &[&str], bytes: &mut [u8], name: &[u8]) -> Result<String, Refus
 
 fn list_line(bytes: &[u8]) -> Result<String, Refusal> {
     let Correction { row, name, millionths, decimals, flag } = pochahuic::read_list_line(bytes)?;
-    let start = name.as_ptr() as usize - bytes.as_ptr() as usize;
-    Ok(format!("line {row} {start} {} {millionths} {decimals} {flag}", name.len()))
+    let (start, length) = (start(name, bytes), name.len());
+    Ok(format!("line {row} {start} {length} {millionths} {decimals} {flag}"))
 }
 
 /// The last word that is left.

@@ -1,4 +1,5 @@
-//! Reads an exchange file by the names of its columns: its counts, profiles and salinities, corrections, and a refusal with its line and column.
+//! Reads an exchange file by the names of its columns: its counts, profiles and salinities, corrections, its rows after them, and a refusal with its line and
+//! column.
 
 use pochahuic::{Kind, Reading, Refusal};
 
@@ -60,6 +61,18 @@ fn print_profile(file: &[u8], k: u64) -> Result<(), Refusal> {
     Ok(())
 }
 
+/// The rows as an importer takes them: every cell without the spaces at its ends, in one walk.
+fn print_rows(file: &[u8], columns: u64) -> Result<(), Refusal> {
+    for cell in pochahuic::walk(file)? {
+        if cell.column == 1 {
+            print!("row {}: ", cell.row);
+        }
+        let ending = if cell.column == columns { '\n' } else { ',' };
+        print!("{}{ending}", String::from_utf8_lossy(cell.text));
+    }
+    Ok(())
+}
+
 fn main() -> Result<(), Box<dyn std::error::Error>> {
     let path = std::env::args().nth(1).ok_or("usage: file_k FILE")?;
     let mut file = std::fs::read(path)?;
@@ -82,6 +95,7 @@ fn main() -> Result<(), Box<dyn std::error::Error>> {
             Err(refusal) => println!("not corrected: {refusal}"),
         }
     }
+    print_rows(&file, checked.columns)?;
 
     // a blank salinity is refused, with its place
     let salinity = pochahuic::column_named(&file, b"SALNTY")?;

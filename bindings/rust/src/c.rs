@@ -88,4 +88,6 @@ extern "C" {
         flags_length: usize,
         out: *mut [u64; 4],
     ) -> u64;
+    pub fn pochahuic_walk_open(file: *const u8, length: usize, cursor: *mut [u64; 10]) -> u64;
+    pub fn pochahuic_walk_next(file: *const u8, length: usize, cursor: *mut [u64; 10]) -> u64;
 }

@@ -1,7 +1,7 @@
 //! Pochahuic from Rust: the proved calls of a WHP-Exchange file, over its C interface.
 //!
 //! Rows, columns, profiles and headers count from 1. Every call on a file but `column_in` checks the whole file first, and answers with the refusal where
-//! it is refused.
+//! it is refused; `walk` does so once for all its cells.
 
 use c::*;
 use std::fmt;
@@ -10,8 +10,10 @@ use std::ops::Range;
 mod c;
 mod columns;
 mod messages;
+mod walk;
 
 pub use columns::*;
+pub use walk::*;
 
 /// Why and where: line and column are 0 where the refusal has no place in the file.
 #[derive(Clone, Copy, Debug, PartialEq, Eq)]

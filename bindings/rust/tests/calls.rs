@@ -3,8 +3,8 @@
 use pochahuic::{
     cell, check, column_flags, column_flags_into, column_in, column_named, column_values,
     column_values_into, correct, decimal, flag, header, name, open, profile, read_list_line,
-    station, unit, Checked, Correction, Header, Kind, Opened, Profile, Reading, Refusal, MISSING,
-    PRESENT,
+    station, unit, walk, Cell, Checked, Correction, Header, Kind, Opened, Profile, Reading,
+    Refusal, MISSING, PRESENT,
 };
 
 const K: &[u8] = include_bytes!("../../k_hy1.csv");
@@ -188,6 +188,49 @@ fn a_table_that_is_too_short_is_left_alone() {
     assert_eq!(flags, [77; 2]);
     assert_eq!(column_flags_into(K, SALNTY, &mut []), Err(refusal(22, 0, 0)));
     assert_eq!(refusal(29, 0, 0).to_string(), "a lent table is too short for the rows (29)");
+}
+
+#[test]
+fn a_walk_hands_out_the_cells_of_the_single_calls() {
+    for file in [K, CTD] {
+        let Checked { columns, rows, .. } = check(file).unwrap();
+        let places = (1..=rows).flat_map(|row| (1..=columns).map(move |column| (row, column)));
+        let single = |(row, column)| Cell { row, column, text: cell(file, row, column).unwrap() };
+        let cells: Vec<Cell> = walk(file).unwrap().collect();
+        assert_eq!(cells, places.map(single).collect::<Vec<Cell>>());
+    }
+    let texts: Vec<&[u8]> = walk(CTD).unwrap().map(|cell| cell.text).collect();
+    assert_eq!(texts, [&b"2.0"[..], b"2", b"-999", b"9"]);
+}
+
+#[test]
+fn a_walk_counts_its_cells_and_stays_at_its_end() {
+    let mut cells = walk(K).unwrap();
+    for left in (0..27).rev() {
+        assert_eq!(cells.len(), left + 1);
+        assert!(cells.next().is_some());
+    }
+    for _ in 0..3 {
+        assert_eq!(cells.len(), 0);
+        assert_eq!(cells.next(), None);
+    }
+}
+
+#[test]
+fn a_blank_cell_is_empty_at_its_first_byte() {
+    let file = changed(",CTDPRS,", ",REMARK,");
+    let file = String::from_utf8(file).unwrap().replace(",  10.0,", ",      ,").into_bytes();
+    let blank = walk(&file).unwrap().nth(6).unwrap();
+    assert_eq!(blank, Cell { row: 1, column: 7, text: b"" });
+    let before = "33XX20240301,7,1,20240303,-12.5000,  45.2500,".len();
+    assert_eq!(blank.text.as_ptr(), file[open(&file).unwrap().first + before..].as_ptr());
+}
+
+#[test]
+fn a_refused_file_has_no_walk() {
+    assert_eq!(walk(b"").unwrap_err(), refusal(14, 1, 1));
+    assert_eq!(walk(&K[..10]).unwrap_err(), refusal(2, 1, 11));
+    assert_eq!(walk(&changed("2\n33XX", "0\n33XX")).unwrap_err(), refusal(18, 5, 62));
 }
 
 #[test]
