@@ -1,7 +1,8 @@
-// check FILE [COLUMN]: checks the file once, and reads the column whole where one is named, for a tool that counts the instructions of a call; prints number, line
-// and column of the last call's answer.
+// check FILE [COLUMN | walk]: checks the file once, and reads the column whole where one is named, or walks over all cells, for a tool that counts the instructions
+// of a call; prints number, line and column of the last call's answer, and how many cells were walked over.
 #include <stdio.h>
 #include <stdlib.h>
+#include <string.h>
 
 #include "../../bindings/c/pochahuic.h"
 
@@ -20,7 +21,7 @@ int main(int count, char **words)
 {
     FILE *input = count == 2 || count == 3 ? fopen(words[1], "rb") : NULL;
     if (input == NULL || fseek(input, 0, SEEK_END) != 0) {
-        fprintf(stderr, "usage: check FILE [COLUMN]\n");
+        fprintf(stderr, "usage: check FILE [COLUMN | walk]\n");
         return 2;
     }
     size_t size = (size_t)ftell(input);
@@ -30,13 +31,16 @@ int main(int count, char **words)
         fprintf(stderr, "check: the file can't be read\n");
         return 2;
     }
-    uint64_t out[8];
+    uint64_t out[10], cells = 0;
     pochahuic_check(file, size, out);
-    if (count == 3) {
+    if (count == 3 && strcmp(words[2], "walk") == 0) {
+        for (pochahuic_walk_open(file, size, out); out[5] != 0; pochahuic_walk_next(file, size, out))
+            cells++;
+    } else if (count == 3) {
         size_t rows = out[5];
         pochahuic_column_values(file, size, strtoull(words[2], NULL, 10), room(rows, 1), rows, room(rows, sizeof(int64_t)), rows, room(rows, sizeof(double)),
                                 rows, out);
     }
-    printf("%llu %llu %llu\n", (unsigned long long)out[0], (unsigned long long)out[1], (unsigned long long)out[2]);
+    printf("%llu %llu %llu %llu\n", (unsigned long long)out[0], (unsigned long long)out[1], (unsigned long long)out[2], (unsigned long long)cells);
     return 0;
 }

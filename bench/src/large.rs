@@ -4,8 +4,9 @@ use crate::check::FileKind;
 use crate::correct::Correction;
 use crate::files::{Made, BOTTLE_COLUMNS, MEGABYTE};
 use crate::kinds::CastTime;
+use crate::walk::WalkedCell;
 use crate::whole_columns::{column_flags, column_values, Tables};
-use crate::{calls, check, correct, labels, pochahuic, refusal};
+use crate::{calls, check, correct, labels, pochahuic, refusal, walk, walks};
 use std::hash::{DefaultHasher, Hash, Hasher};
 
 const MOST_DATA_LINES: u64 = 1_000_000;
@@ -21,7 +22,7 @@ pub fn compare() -> bool {
         let columns = if kind == FileKind::Bottle { 7 } else { 1 };
         for rows in [MOST_DATA_LINES, MOST_DATA_LINES + 1] {
             let file = Made::new(kind, rows, columns);
-            requests.check(&format!("{rows} rows of {}", kind.word()), &file.bytes);
+            requests.check_and_walk(&format!("{rows} rows of {}", kind.word()), &file.bytes);
         }
     }
     for (kind, columns) in [(FileKind::Bottle, BOTTLE_COLUMNS), (FileKind::Ctd, CTD_COLUMNS)] {
@@ -47,16 +48,19 @@ impl Requests {
         }
     }
 
-    fn check(&mut self, what: &str, file: &[u8]) {
+    /// The check, and the walk over all cells or its refusal.
+    fn check_and_walk(&mut self, what: &str, file: &[u8]) {
         let ours = our_check(file);
         println!("{what}, {} bytes: {ours:?}", file.len());
         self.hold(what, ours, their_check(file));
+        let (ours, theirs) = both_walks(file);
+        self.hold(&format!("{what}, walk"), ours, theirs);
     }
 
     /// Every call, at the first, a middle and the last row and at places that are not there.
     fn calls(&mut self, file: &Made) {
         let Made { kind, rows, columns, ref bytes } = *file;
-        self.check(&format!("{rows} rows x {columns} columns of {}", kind.word()), bytes);
+        self.check_and_walk(&format!("{rows} rows x {columns} columns of {}", kind.word()), bytes);
         let measured = file.last_measured();
         for (row, column) in [(1, 1), (rows / 2, measured), (rows, columns), (rows + 1, 1)] {
             let what = format!("{}, row {row}, column {column}", kind.word());
@@ -101,13 +105,14 @@ impl Requests {
         for (name, byte) in [("no flag", b'x'), ("no UTF-8", 0xFF), ("a carriage return", b'\r')] {
             let mut bytes = whole.to_vec();
             bytes[last_flag] = byte;
-            self.check(&format!("{kind}, {name} in the last data line"), &bytes);
+            self.check_and_walk(&format!("{kind}, {name} in the last data line"), &bytes);
         }
-        self.check(&format!("{kind}, no END_DATA"), data);
-        self.check(&format!("{kind}, no last line feed"), &whole[..whole.len() - 1]);
+        self.check_and_walk(&format!("{kind}, no END_DATA"), data);
+        self.check_and_walk(&format!("{kind}, no last line feed"), &whole[..whole.len() - 1]);
         for length in [8_192, 8_193] {
             let bytes = [whole, &b"a".repeat(length), b"\n"].concat();
-            self.check(&format!("{kind}, a line of {length} bytes after END_DATA"), &bytes);
+            let what = format!("{kind}, a line of {length} bytes after END_DATA");
+            self.check_and_walk(&what, &bytes);
         }
     }
 }
@@ -131,6 +136,31 @@ fn their_check(file: &[u8]) -> Answer {
     let exchange = check::check(file).map_err(their_refusal)?;
     let (kind, columns, rows) = (exchange.kind.word(), exchange.columns.len(), exchange.rows.len());
     Ok(format!("{kind} {columns} {rows} {} {}", exchange.profiles.len(), exchange.missing))
+}
+
+fn both_walks(file: &[u8]) -> (Answer, Answer) {
+    let ours = walks::walked(file).map_err(our_refusal);
+    let theirs = walk::walk(file).map_err(their_refusal);
+    match (ours, theirs) {
+        (Ok(ours), Ok(theirs)) => side_by_side(ours, theirs),
+        (ours, theirs) => (ours.map(|_| "accepted".into()), theirs.map(|_| "accepted".into())),
+    }
+}
+
+/// How many cells are the same, and what either walk hands out then: nothing, where all are. No cell is kept.
+fn side_by_side(
+    mut ours: impl Iterator<Item = WalkedCell>,
+    mut theirs: impl Iterator<Item = WalkedCell>,
+) -> (Answer, Answer) {
+    let mut same = 0;
+    loop {
+        let (our, their) = (ours.next(), theirs.next());
+        if our.is_none() || our != their {
+            let then = |cell: Option<WalkedCell>| Ok(format!("{same} cells, then {cell:?}"));
+            return (then(our), then(their));
+        }
+        same += 1;
+    }
 }
 
 fn our_cell(file: &[u8], row: u64, column: u64) -> Answer {

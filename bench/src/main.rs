@@ -34,6 +34,8 @@ mod random;
 #[allow(dead_code)]
 #[path = "../../tests/reader/src/refusal.rs"]
 mod refusal;
+#[path = "../../tests/reader/src/walk.rs"]
+mod walk;
 #[path = "../../tests/reader/src/whole_columns.rs"]
 mod whole_columns;
 
@@ -43,6 +45,7 @@ mod large;
 mod memory;
 mod table;
 mod timing;
+mod walks;
 
 use std::io;
 use std::process::ExitCode;

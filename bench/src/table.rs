@@ -4,7 +4,7 @@ use crate::check::FileKind;
 use crate::correct::Correction;
 use crate::files::{Made, BOTTLE_COLUMNS, MEGABYTE};
 use crate::timing::{time, Timed};
-use crate::{calls, check, columns, correct, memory, pochahuic};
+use crate::{calls, check, columns, correct, memory, pochahuic, walks};
 use std::io;
 
 pub const ROUNDS: usize = 25;
@@ -17,11 +17,12 @@ const MOST_OF_A_BYTE: f64 = 1.2;
 
 /// Prints all of it; says whether every figure is within its limit.
 pub fn print() -> io::Result<bool> {
-    let file = Made::new(FileKind::Bottle, 20_000, BOTTLE_COLUMNS);
-    let (bottle, whole_columns) = (print_calls(&file), columns::print(&file));
-    let ctd = print_calls(&Made::new(FileKind::Ctd, 5_000, 12));
-    let sizes = print_sizes()?;
-    Ok(bottle && whole_columns && ctd && sizes)
+    let bottle = Made::new(FileKind::Bottle, 20_000, BOTTLE_COLUMNS);
+    let of_bottle = print_calls(&bottle) & columns::print(&bottle) & walks::print(&bottle);
+    let ctd = Made::new(FileKind::Ctd, 5_000, 12);
+    let of_ctd = print_calls(&ctd) & walks::print(&ctd);
+    let of_sizes = print_sizes()?;
+    Ok(of_bottle && of_ctd && of_sizes)
 }
 
 /// The calls on one file, timed beside the independent reader and two walks that no check can do without.
