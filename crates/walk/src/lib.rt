@@ -2,9 +2,7 @@
 ghost use mathlib.Core.Path.{_≡_};
 ghost use Rattle.bytes.specs.Spaces.{IsPart};
 ghost use Rattle.cursors.specs.Walk.{atEnd, onCell, openOf, stepOf, partOf};
-ghost use Rattle.cursors.specs.Walkers.{openedOn, walkedOn, partIn};
 pub use cursors::Cursor;
-pub use cursors::Walker;
 use format::CellPlace;
 use grid::cell_end;
 use grid::no_place;
@@ -101,28 +99,4 @@ fn at_end(cursor: Cursor) -> Cursor
         stop: 0,
     };
     on_cell(cursor, nothing, 0, 0)
-}
-
-// The walker, which holds the lent file with the cursor: each call is one of those above on both.
-pub fn open<'a>(file: &'a [u8]) -> Walker<'a>
-    ensures { λ r. ⌜ r ≡ openedOn (file .entry) ⌝ }
-{
-    let c = open_at(file);
-    Walker { file, cursor: c }
-}
-
-pub fn next<'a>(walker: Walker<'a>) -> Walker<'a>
-    ensures { λ r. ⌜ r ≡ walkedOn (walker .entry) ⌝ }
-{
-    let c = step_at(walker.file, walker.cursor);
-    Walker {
-        file: walker.file,
-        cursor: c,
-    }
-}
-
-pub fn cell<'a>(walker: Walker<'a>) -> &'a [u8]
-    ensures { λ r. ⌜ IsPart (walker .entry .file) r (partIn (walker .entry)) ⌝ }
-{
-    part_at(walker.file, walker.cursor)
 }

@@ -45,14 +45,14 @@ use Rattle.cursors.proofs.Walker as T
 use Rattle.cursors.proofs.Walker.Laws as T′
 use Rattle.cursors.proofs.Cursor as P
 use Rattle.cursors.proofs.Cursor.Laws as P′
 use Rattle.walk.proofs.open_at as callee
 use Rattle.walk.proofs.open_at.Symbol as callee-def
 use Rattle.walk.proofs.open_at.Symbol.{name as #walk·open-at}
 use Rattle.walk.proofs.open_at.Met as callee-thm
-use Rattle.walk.proofs.open.Key.{name as #walk·open}
-use Rattle.walk.proofs.open as open′
-use Rattle.walk.proofs.open.Statement as stated
-use Rattle.walk.proofs.open.Code as code
+use Rattle.walker.proofs.open.Key.{name as #walker·open}
+use Rattle.walker.proofs.open as open′
+use Rattle.walker.proofs.open.Statement as stated
+use Rattle.walker.proofs.open.Code as code
 
 abbrev B : Lfts 1 → RattleType
 B κs = T.the-row (namedLft 1 0 tt κs)
@@ -135,6 +135,6 @@ pub open-spec : {M : Type 1} → stated.statement M
 unfolding code.routine tablesOf
 open-spec 𝓤 H 𝓜 𝓖 𝓡 =
     entered 𝓤 H (tripleOf 𝓤 H (𝓖 .A) open′.signature (open′.spec 𝓤 H (𝓖 .A) (𝓜 .mem) (𝓡 .run)))
-    (tables 𝓤 H 𝓜 𝓡 code.env .C) (tables 𝓤 H 𝓜 𝓡 code.env .Λ) #walk·open code.function (code.unfolded 𝓤 H 𝓜 𝓡)
+    (tables 𝓤 H 𝓜 𝓡 code.env .C) (tables 𝓤 H 𝓜 𝓡 code.env .Λ) #walker·open code.function (code.unfolded 𝓤 H 𝓜 𝓡)
     (open-meets 𝓤 H (𝓖 .A) (givenOf 𝓤 H 𝓜 𝓖) (𝓜 .mem) (𝓡 .run) (tablesOf 𝓤 H 𝓜 (tables 𝓤 H 𝓜 𝓡 code.env))
     (cited 𝓤 H (Callee 𝓤 H (𝓖 .A) (𝓜 .mem) (𝓡 .run)) 𝓜 𝓡 code.env #walk·open-at callee-def.routine code.calls-walk·open-at (callee-thm.met 𝓤 H 𝓜 𝓖 𝓡)))

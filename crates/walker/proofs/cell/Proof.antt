@@ -48,14 +48,14 @@ use Rattle.cursors.proofs.Walker as T
 use Rattle.cursors.proofs.Walker.Laws as T′
 use Rattle.cursors.proofs.Cursor as P
 use Rattle.cursors.proofs.Cursor.Laws as P′
 use Rattle.walk.proofs.part_at as callee
 use Rattle.walk.proofs.part_at.Symbol as callee-def
 use Rattle.walk.proofs.part_at.Symbol.{name as #walk·part-at}
 use Rattle.walk.proofs.part_at.Met as callee-thm
-use Rattle.walk.proofs.cell.Key.{name as #walk·cell}
-use Rattle.walk.proofs.cell as cell
-use Rattle.walk.proofs.cell.Statement as stated
-use Rattle.walk.proofs.cell.Code as code
+use Rattle.walker.proofs.cell.Key.{name as #walker·cell}
+use Rattle.walker.proofs.cell as cell
+use Rattle.walker.proofs.cell.Statement as stated
+use Rattle.walker.proofs.cell.Code as code
 
 abbrev B : Lfts 1 → RattleType
 B κs = T.the-row (namedLft 1 0 tt κs)
@@ -159,6 +159,6 @@ pub cell-spec : {M : Type 1} → stated.statement M
 unfolding code.routine tablesOf
 cell-spec 𝓤 H 𝓜 𝓖 𝓡 =
     entered 𝓤 H (tripleOf 𝓤 H (𝓖 .A) cell.signature (cell.spec 𝓤 H (𝓖 .A) (𝓜 .mem) (𝓡 .run)))
-    (tables 𝓤 H 𝓜 𝓡 code.env .C) (tables 𝓤 H 𝓜 𝓡 code.env .Λ) #walk·cell code.function (code.unfolded 𝓤 H 𝓜 𝓡)
+    (tables 𝓤 H 𝓜 𝓡 code.env .C) (tables 𝓤 H 𝓜 𝓡 code.env .Λ) #walker·cell code.function (code.unfolded 𝓤 H 𝓜 𝓡)
     (cell-meets 𝓤 H (𝓖 .A) (givenOf 𝓤 H 𝓜 𝓖) (𝓜 .mem) (𝓡 .run) (tablesOf 𝓤 H 𝓜 (tables 𝓤 H 𝓜 𝓡 code.env))
     (cited 𝓤 H (Callee 𝓤 H (𝓖 .A) (𝓜 .mem) (𝓡 .run)) 𝓜 𝓡 code.env #walk·part-at callee-def.routine code.calls-walk·part-at (callee-thm.met 𝓤 H 𝓜 𝓖 𝓡)))

@@ -47,14 +47,14 @@ use Rattle.cursors.proofs.Walker as T
 use Rattle.cursors.proofs.Walker.Laws as T′
 use Rattle.cursors.proofs.Cursor as P
 use Rattle.cursors.proofs.Cursor.Laws as P′
 use Rattle.walk.proofs.step_at as callee
 use Rattle.walk.proofs.step_at.Symbol as callee-def
 use Rattle.walk.proofs.step_at.Symbol.{name as #walk·step-at}
 use Rattle.walk.proofs.step_at.Met as callee-thm
-use Rattle.walk.proofs.next.Key.{name as #walk·next}
-use Rattle.walk.proofs.next as next
-use Rattle.walk.proofs.next.Statement as stated
-use Rattle.walk.proofs.next.Code as code
+use Rattle.walker.proofs.next.Key.{name as #walker·next}
+use Rattle.walker.proofs.next as next
+use Rattle.walker.proofs.next.Statement as stated
+use Rattle.walker.proofs.next.Code as code
 
 abbrev B : Lfts 1 → RattleType
 B κs = T.the-row (namedLft 1 0 tt κs)
@@ -169,6 +169,6 @@ pub next-spec : {M : Type 1} → stated.statement M
 unfolding code.routine tablesOf
 next-spec 𝓤 H 𝓜 𝓖 𝓡 =
     entered 𝓤 H (tripleOf 𝓤 H (𝓖 .A) next.signature (next.spec 𝓤 H (𝓖 .A) (𝓜 .mem) (𝓡 .run)))
-    (tables 𝓤 H 𝓜 𝓡 code.env .C) (tables 𝓤 H 𝓜 𝓡 code.env .Λ) #walk·next code.function (code.unfolded 𝓤 H 𝓜 𝓡)
+    (tables 𝓤 H 𝓜 𝓡 code.env .C) (tables 𝓤 H 𝓜 𝓡 code.env .Λ) #walker·next code.function (code.unfolded 𝓤 H 𝓜 𝓡)
     (next-meets 𝓤 H (𝓖 .A) (givenOf 𝓤 H 𝓜 𝓖) (𝓜 .mem) (𝓡 .run) (tablesOf 𝓤 H 𝓜 (tables 𝓤 H 𝓜 𝓡 code.env))
     (cited 𝓤 H (Callee 𝓤 H (𝓖 .A) (𝓜 .mem) (𝓡 .run)) 𝓜 𝓡 code.env #walk·step-at callee-def.routine code.calls-walk·step-at (callee-thm.met 𝓤 H 𝓜 𝓖 𝓡)))
