@@ -6,6 +6,7 @@ use mathlib.Core.Bool.{Bool, true, false, cond, _||_}
 use native.Mathlib.Nat.{zero-mul, suc-mul}
 use native.Mathlib.Omega.{arith}
 use lib.ListN.{length, take, length-append}
+use lib.Seq.{take-all, take-nil}
 use lib.Dec.{eqb, leb, ltb}
 use borrow.Author.Tests.{eqb-true, eqb-false, eq-eqb, ne-eqb, lt-leb, leb-false, ltb-true, ltb-false}
 use denote.Ref.{RefT, now}
@@ -40,11 +41,6 @@ refused-rows f z = go (outcomeOf f) z
 -- ---- at the end
 over-row : (f : List ℕ) (x : Cursor) → x .row ≡ 0 → stepOf f x ≡ atEnd x
 over-row f x z = step-over f x (rw (eq-eqb (x .row) 0 z))
-
-ended-stays : (f : List ℕ) (k : ℕ) (c : Checked) → stepped f k (ended c) ≡ ended c
-unfolding stepped
-ended-stays f zero c = refl
-ended-stays f (suc k) c = ap (stepped f k) (over-row f (ended c) refl) ∙ ended-stays f k c
 
 end-stays : (f : List ℕ) (k : ℕ) (x : Cursor) → stepped f k (atEnd x) ≡ atEnd x
 unfolding stepped
@@ -120,15 +116,6 @@ open-yes f z =
     ∙ ap (λ (i : ℕ). onCell (ended (checkedOf f)) (cellAfter f i) 1 1) (first-row f)
 
 -- ---- the cells, by the rows and columns that are left
-take-all : (k : ℕ) (l : List Cell) → length l ≤ k → take k l ≡ l
-take-all zero [] h = refl
-take-all zero (x ∷ l) h = absurd (omega arith)
-take-all (suc k) [] h = refl
-take-all (suc k) (x ∷ l) h = ap (λ (t : List Cell). x ∷ t) (take-all k l (omega (arith, h)))
-
-take-none : (k : ℕ) → take {A = Cell} k [] ≡ []
-take-none k = take-all k [] (omega arith)
-
 none-handed : (f : List ℕ) (k : ℕ) (c : Checked) → handedOut f k (ended c) ≡ []
 unfolding handedOut
 none-handed f zero c = refl
@@ -140,7 +127,7 @@ record Goes (f : List ℕ) (k : ℕ) (x : Cursor) (cells : List Cell) : Type 0 w
   over : length cells ≤ k → stepped f k x ≡ ended (checkedOf f)
 
 goes-over : (f : List ℕ) (k : ℕ) → Goes f k (ended (checkedOf f)) []
-goes-over f k = record { handed = none-handed f k (checkedOf f) ∙ sym (take-none k); over = λ h. ended-stays f k (checkedOf f) }
+goes-over f k = record { handed = none-handed f k (checkedOf f) ∙ sym (take-nil k); over = λ h. end-stays f k (ended (checkedOf f)) }
 
 goes-by : {f : List ℕ} {k : ℕ} {x y : Cursor} {cells : List Cell} → y ≡ x → Goes f k x cells → Goes f k y cells
 goes-by {f} {k} {x} {y} {cells} e g = subst (λ (z : Cursor). Goes f k z cells) (sym e) g
@@ -270,7 +257,7 @@ open-carries part cell-has f = go (eqb (checkedOf f .number) 0) refl
 
 pub carries : Carries
 carries = record {
-  refused = λ f z k. ap (stepped f k) (open-no f z) ∙ ended-stays f k (checkedOf f);
+  refused = λ f z k. ap (stepped f k) (open-no f z) ∙ end-stays f k (ended (checkedOf f));
   number = λ f k. carried (λ x. x .cell .number) (λ x. refl) (λ x a r c. refl) f k (openOf f) ∙ open-carries (λ x. x .cell .number) (λ x a r c. refl) f;
   line = λ f k. carried (λ x. x .cell .line) (λ x. refl) (λ x a r c. refl) f k (openOf f) ∙ open-carries (λ x. x .cell .line) (λ x a r c. refl) f;
   column = λ f k. carried (λ x. x .cell .column) (λ x. refl) (λ x a r c. refl) f k (openOf f) ∙ open-carries (λ x. x .cell .column) (λ x a r c. refl) f;
