@@ -25,7 +25,7 @@ use Rattle.next_cell.specs.declared.CellAfter.{CellAfter}
 use Rattle.next_cell.specs.After.{cellAfter}
 use Rattle.cursors.specs.declared.Cursor.{Cursor}
 use Rattle.cursors.specs.Walk.{ended, atEnd, onCell, openOf, goesOn, stepOf, partOf}
-use Rattle.cursors.specs.Promises.{Cell, rowFrom, rowsFrom, allCells, handedOut, stepped, WalksAll, EndsEver, Carries, handedBy, walkedBy, WalkerWalks}
+use Rattle.cursors.specs.Promises.{Cell, rowFrom, rowsFrom, allCells, handedOut, stepped, WalksAll, EndsEver, Carries, CarriesPart, handedBy, walkedBy, WalkerWalks}
 use Rattle.cursors.proofs.StepLaws.{open-refused, open-accepted, step-over, step-right, step-down, step-last, part-fits, part-inside}
 use Rattle.cursors.proofs.PlaceLaws.{many, At, at-first, at-within, at-inside, at-cell, at-next, at-end}
 
@@ -262,6 +262,30 @@ carries = record {
   line = λ f k. carried (λ x. x .cell .line) (λ x. refl) (λ x a r c. refl) f k (openOf f) ∙ open-carries (λ x. x .cell .line) (λ x a r c. refl) f;
   column = λ f k. carried (λ x. x .cell .column) (λ x. refl) (λ x a r c. refl) f k (openOf f) ∙ open-carries (λ x. x .cell .column) (λ x a r c. refl) f;
 }
+
+-- the place that a cursor carries lies in the file, and so it is the part's
+abbrev Fits : List ℕ → Cursor → Type 0
+Fits f x = x .cell .place .start + x .cell .place .len ≤ length f
+
+cell-fits : (f : List ℕ) (x : Cursor) (i r c : ℕ) → Fits f (onCell x (cellAfter f i) r c)
+cell-fits f x i r c = span-fits f i (cellEnd 44 f i) (cellAfter f i .place) refl
+
+open-fits : (f : List ℕ) → Fits f (openOf f)
+open-fits f = go (eqb (checkedOf f .number) 0) refl
+  where
+    go : (b : Bool) → eqb (checkedOf f .number) 0 ≡ b → Fits f (openOf f)
+    go true q = subst (Fits f) (sym (open-yes f (eqb-true (checkedOf f .number) 0 q))) (cell-fits f (ended (checkedOf f)) (rowStart f 1) 1 1)
+    go false q = subst (Fits f) (sym (open-no f (eqb-false (checkedOf f .number) 0 q))) (omega arith)
+
+step-fits : (f : List ℕ) (x : Cursor) → Fits f (stepOf f x)
+step-fits f x = go (went f x)
+  where
+    go : Went f x → Fits f (stepOf f x)
+    go (over q) = subst (Fits f) (sym q) (omega arith)
+    go (on r c l q) = subst (Fits f) (sym q) (cell-fits f x (x .stop + 1) r c)
+
+pub carries-part : CarriesPart
+carries-part = record { opened = λ f. sym (part-fits f (openOf f) (open-fits f)); next = λ f x. sym (part-fits f (stepOf f x) (step-fits f x)) }
 
 -- ---- the walker's steps are the cursor's
 by-cursor : (k : ℕ) (f : RefT (List ℕ)) (x : Cursor) → walkedBy k (record { file = f; cursor = x }) ≡ record { file = f; cursor = stepped (now f) k x }

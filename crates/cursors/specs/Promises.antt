@@ -67,6 +67,11 @@ pub record Carries : Type 0 where
   pub line : (f : List ℕ) (k : ℕ) → stepped f k (openOf f) .cell .line ≡ checkedOf f .line
   pub column : (f : List ℕ) (k : ℕ) → stepped f k (openOf f) .cell .column ≡ checkedOf f .column
 
+-- ---- the cell's place as a cursor carries it, for a caller by numbers: in an opened cursor, and in one that a step gives, whatever it came from, it is the part's
+pub record CarriesPart : Type 0 where
+  pub opened : (f : List ℕ) → openOf f .cell .place ≡ partOf f (openOf f)
+  pub next : (f : List ℕ) (x : Cursor) → stepOf f x .cell .place ≡ partOf f (stepOf f x)
+
 -- ---- the same of the walker itself: what it hands out, and what it holds after k steps, which is the lent file ever after
 unfoldable pub handedBy : ℕ → Walker → List Cell
 handedBy zero w = []
