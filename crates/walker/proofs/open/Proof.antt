@@ -1,6 +1,6 @@
 -- By hand, step by step of the machine, because a local holds a reference inside a struct: the covered call is handed the file, and its promise is the promise
 -- here.
-use mathlib.Core.Path.{_≡_, refl, ap, subst}
+use mathlib.Core.Path.{_≡_, refl, ap}
 use Prim.Native.Nat.{ℕ}
 use mathlib.Core.List.{List, [], _∷_}
 use lib.ListN.{length}
@@ -14,14 +14,13 @@ use prog.Memory.{Memory}
 use prog.Routine.{Routine}
 use prog.Wp.{Heap, Calls, Loops, WpFn, Tables}
 use ghost.Atoms.{Atoms, sem}
-use contract.Lifetimes.{Lfts}
 use contract.Monad.{Fun, fact}
 use contract.Running.{givenOf, tables, tablesOf}
 use types.Kit.{Given, ‵, raw, _⊛_, ⋆, some, later, _$_, _∵_, !, qed, by, move, drop, use1, use2, split, join, pick, rewrite, fsplit, fjoin, suffices, frame, await, done}
 use types.Part.{agg}
 use types.Run.{look, init, forget, stop, from, load, and-then, no-more, assigns, land, returns, enter, alloc1, alloc0, params1, pass1, pass0, free1, free0}
 use sound.WpLaws.{FmC, fmOf, WpFn-mono}
-use denote.RattleType.{RattleType, owns}
+use denote.RattleType.{owns}
 use denote.Laws.{Is, shows}
 use denote.Builtin.{u8}
 use denote.Ref.{RefT, NamedLft, now}
@@ -49,17 +48,11 @@ use Rattle.walk.proofs.open_at as callee
 use Rattle.walk.proofs.open_at.Symbol as callee-def
 use Rattle.walk.proofs.open_at.Symbol.{name as #walk·open-at}
 use Rattle.walk.proofs.open_at.Met as callee-thm
+use Rattle.walker.proofs.WalkerLaws.{at-lowered}
 use Rattle.walker.proofs.open.Key.{name as #walker·open}
 use Rattle.walker.proofs.open as open′
 use Rattle.walker.proofs.open.Statement as stated
 use Rattle.walker.proofs.open.Code as code
-
-abbrev B : Lfts 1 → RattleType
-B κs = T.the-row (namedLft 1 0 tt κs)
-
--- what a place is related to is its machine value, written out
-at-lowered : (d : Cursor) (vs : List Val) → Is P.the-row d vs → Is P.the-row d (P′.lowered d ∷ [])
-at-lowered d vs p = subst (Is P.the-row d) (P′.lowers .val-is d vs p) p
 
 abbrev Callee : {M : Type 1} (𝓤 : URA M) (H : Heap 𝓤) (A : Atoms 𝓤) (mem : Memory → SProp 𝓤) (run : Routine → Fun 𝓤) → Contract 𝓤
 Callee 𝓤 H A mem run = tripleOf 𝓤 H A callee.signature (callee.spec 𝓤 H A mem run)
