@@ -9,6 +9,9 @@ use crate::walk::{walk, WalkedCell};
 /// The time of a whole walk against that of one check.
 const MOST_OF_A_WALK: f64 = 1.8;
 
+/// A walk takes about as long as a machine that others share stays at its full speed, so more rounds are wanted until one of them does.
+const ROUNDS_OF_A_WALK: usize = 8 * ROUNDS;
+
 /// The walk with each cell by its place in the file, as the independent reader hands it out.
 pub fn walked(file: &[u8]) -> Result<impl Iterator<Item = WalkedCell> + '_, pochahuic::Refusal> {
     let place = |pochahuic::Cell { row, column, text }| {
@@ -28,7 +31,7 @@ pub fn print(file: &Made) -> bool {
         Timed::new("check", || pochahuic::check(bytes).expect("accepted")),
         Timed::new(format!("walk over all {cells} cells"), || use_all_cells(bytes)),
     ];
-    time(ROUNDS, &mut timed);
+    time(ROUNDS_OF_A_WALK, &mut timed);
     let Made { kind, rows, columns, .. } = file;
     println!(
         "| walk, {}, {rows} rows x {columns} columns | ms | of a check | ns for a cell |",

@@ -1,16 +1,18 @@
--- The spaces at a cell's front, and the cell from where it ends.
+-- Where a cell ends, the spaces at its front, and the cell from there.
 use Prim.Native.Nat.{ℕ, zero, suc, _+_, _-_, _≤_, _<_}
 use mathlib.Core.Path.{_≡_, refl, ap, _∙_}
 use mathlib.Core.List.{List}
-use mathlib.Core.Bool.{Bool, true, false}
+use mathlib.Core.Bool.{Bool, true, false, _||_, true≢false}
+use native.Mathlib.Nat.{add-assoc}
 use native.Mathlib.Omega.{arith}
 use lib.ListN.{length, getD, drop, length-drop}
 use lib.Seq.{slice}
-use lib.Dec.{ltb}
+use lib.Dec.{eqb, ltb}
 use borrow.Author.Tests.{ltb-true, ltb-false}
 use Rattle.bytes.specs.declared.Span.{Span}
 use Rattle.bytes.specs.Cells.{lineAt, cellEnd}
 use Rattle.bytes.specs.Spaces.{trimFront, trimSpan}
+use Rattle.bytes.proofs.CellLaws.{cellEnd-in}
 use Rattle.bytes.proofs.SpaceLaws.{trimEnd-stop, trimFront-stop, trimFront-step, span-within}
 use Rattle.format.proofs.RunLaws.{piece-in}
 use Rattle.next_cell.specs.declared.CellAfter.{CellAfter}
@@ -18,6 +20,12 @@ use Rattle.next_cell.specs.After.{cellAfter}
 use Rattle.next_cell.specs.Inner.Spaces.{Spaces}
 
 module _ (s : List ℕ) where
+  -- ---- bytes looked at all at once: a cell that none of them ends goes on behind them
+  pub goes-on : (i k : ℕ) (ends : Bool) → i + k < length s → (ends ≡ false → cellEnd 44 s i ≡ cellEnd 44 s (i + k))
+      → (ends || eqb (getD s (i + k) 0) 44) || eqb (getD s (i + k) 0) 10 ≡ false → cellEnd 44 s i ≡ cellEnd 44 s (i + (k + 1))
+  goes-on i k true l g e = absurd (true≢false e)
+  goes-on i k false l g e = g refl ∙ cellEnd-in s (i + k) l 44 e ∙ ap (cellEnd 44 s) (add-assoc i k 1)
+
   -- ---- bytes that are all spaces
   pub spaces-none : (a : ℕ) → Spaces s a a
   spaces-none a k l h = absurd (omega arith)

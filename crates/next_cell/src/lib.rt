@@ -1,6 +1,6 @@
 // The next cell of a file from the place where it starts, in one pass over its bytes, for whoever walks from cell to cell. Any bytes and any place may come in.
 ghost use mathlib.Core.Path.{_≡_};
-ghost use mathlib.Core.Bool.{true};
+ghost use mathlib.Core.Bool.{true, false};
 ghost use Prim.Native.Nat.{_+_, _-_, _≤_, _<_};
 ghost use lib.ListN.{length, getD};
 ghost use lib.Seq.{slice};
@@ -13,8 +13,8 @@ use grid::cell_end;
 use text::Span;
 use text::trim_span;
 
-// How many bytes are looked at first, in a loop of fixed length; most cells end among them.
-const NEAR: usize = 16;
+// How many bytes are looked at first, all at once: a flag's cell ends among them, a value's cell mostly behind them.
+const NEAR: usize = 8;
 
 // Two and four spaces as one number.
 const TWO_SPACES: u32 = 0x2020;
@@ -55,29 +55,27 @@ fn cell_stop(s: &[u8], i: usize) -> usize
     if s.len() < i {
         return i;
     }
-    if s.len() - i < NEAR {
+    if s.len() - i <= NEAR {
         return cell_end(s, i);
     }
-    let k = near_end(s, i);
-    if k < NEAR {
-        return i + k;
+    if ends_near(s, i) {
+        return cell_end(s, i);
     }
     cell_end(s, i + NEAR)
 }
 
-// How many of these bytes, from i on, are the cell's; the compiler writes the loop out.
-fn near_end(s: &[u8], i: usize) -> usize
-    requires { ⌜ i + 16 ≤ length (now s) ⌝ }
-    ensures { λ r. ⌜ (r ≤ 16) × (cellEnd comma (now (s .entry)) i ≡ cellEnd comma (now (s .entry)) (i + r)) × (r < 16 → cellEnd comma (now (s .entry)) i ≡ i + r) ⌝ }
+// Whether it ends among the near bytes from i on; the compiler compares them all at once.
+fn ends_near(s: &[u8], i: usize) -> bool
+    requires { ⌜ i + 8 ≤ length (now s) ⌝ }
+    ensures { λ r. ⌜ (r ≡ false → cellEnd comma (now (s .entry)) i ≡ cellEnd comma (now (s .entry)) (i + 8)) ⌝ }
 {
     let mut k: usize = 0;
+    let mut ends = false;
     while k < NEAR {
-        if (s[i + k] == b',') | (s[i + k] == b'\n') {
-            return k;
-        }
+        ends = ends | (s[i + k] == b',') | (s[i + k] == b'\n');
         k += 1;
     }
-    k
+    ends
 }
 
 // Whether a cell has bytes and the last of them is no space.
