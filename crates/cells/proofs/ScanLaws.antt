@@ -9,7 +9,7 @@ use native.Mathlib.Nat.{pow-le-pow_right, pow-suc, mul-le-mul_left, mul_assoc}
 use native.Mathlib.Omega.{arith}
 use lib.ListN.{length, get_or}
 use lib.Dec.{eqb}
-use borrow.Author.Tests.{eqb-true, ne_eqb, not_true, not_false}
+use borrow.Author.Tests.{eqb-true, ne_eqb, not-true, not-false}
 use Rattle.verdicts.specs.declared.Judged.{Judged}
 use Rattle.line_bytes.specs.Bytes.{is_space, is_digit}
 use Rattle.line_bytes.specs.Cells.{cell_at, cell_end, separates}
@@ -147,7 +147,7 @@ module _ {c : ℕ} {s : List ℕ} {i e a : ℕ} (t : Stop c s i e) (r : Spaced s
 
 -- ---- a word
 pub word-inside : (c x : ℕ) → word_byte c x ≡ true → (is_end c x ≡ false) × (is_space x ≡ false) × (key_byte x ≡ true)
-word-inside c x e = go (eqb x 44) (eqb x 32) (eqb x 47) (eqb x c) (eqb x 10) (not_true _ e)
+word-inside c x e = go (eqb x 44) (eqb x 32) (eqb x 47) (eqb x c) (eqb x 10) (not-true _ e)
   where
     go : (p q r u v : Bool) → (p || q || r || u || v) ≡ false → ((u || v) ≡ false) × (q ≡ false) × (not (p || q || r) ≡ true)
     go true q r u v e = absurd (true≢false e)
@@ -157,7 +157,7 @@ word-inside c x e = go (eqb x 44) (eqb x 32) (eqb x 47) (eqb x c) (eqb x 10) (no
 
 -- the byte that ends a word ends its cell, or stands in no key text
 pub word-outside : (c x : ℕ) → word_byte c x ≡ false → is_end c x ≡ false → key_byte x ≡ false
-word-outside c x e d = go (eqb x 44) (eqb x 32) (eqb x 47) (eqb x c) (eqb x 10) (not_false _ e) d
+word-outside c x e d = go (eqb x 44) (eqb x 32) (eqb x 47) (eqb x c) (eqb x 10) (not-false _ e) d
   where
     go : (p q r u v : Bool) → (p || q || r || u || v) ≡ true → (u || v) ≡ false → not (p || q || r) ≡ false
     go true q r u v e d = refl

@@ -1,5 +1,8 @@
 // The cells of a line, each judged by its kind in one pass from the place where it starts.
 // A cell goes on from a place of the lent bytes to a separator or a line feed; the caller says where a line feed stands, and every call sees to that itself.
+
+#![tactic(auto)]
+
 ghost use Rattle.std.specs.Prelude.{◌≡◌};
 ghost use Rattle.verdicts.specs.Judge.{judged_at, whole_at};
 ghost use Rattle.verdicts.specs.Rows.{cells_at};

@@ -1,4 +1,7 @@
 // The names line: its rules, the columns that it names, and what is asked of one of them. Every call here takes any bytes and any place in them.
+
+#![tactic(auto)]
+
 ghost use Rattle.std.specs.Prelude.{◌≡◌, ◌+◌, ◌≤◌, [], length};
 ghost use Rattle.line_bytes.specs.Cells.{line_at, pieces};
 ghost use Rattle.text.specs.Catalogue.{names, kinds};

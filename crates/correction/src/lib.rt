@@ -1,5 +1,8 @@
 // One correction made in the lent file, which may be any bytes: decided first, then written. The types, and the calls for a line of a correction list, are
 // handed on from the crates below.
+
+#![tactic(auto)]
+
 ghost use Rattle.std.specs.Prelude.{◌≡◌};
 ghost use Rattle.orders.specs.Corrections.{answer_of, corrected_of};
 

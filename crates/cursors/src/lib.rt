@@ -1,4 +1,7 @@
 // The place of a walk over the cells of a file, by value, and the walker that holds it with the lent file.
+
+#![tactic(auto)]
+
 use format::CellPlace;
 
 // On the cell of `row` and `column`, which ends with its spaces at `stop`, in a file of so many rows and columns; at the end row and column are 0. The file's

@@ -1,4 +1,7 @@
 // A WHP-Exchange file: the check, and the calls that read its cells, decimals, flags and profiles.
+
+#![tactic(auto)]
+
 ghost use Rattle.std.specs.Prelude.{◌≡◌};
 ghost use Rattle.line_bytes.specs.Spaces.{IsPart};
 ghost use Rattle.format.specs.Answers.{cell_of, refusal_by, asked_of, place_for, reading_for, flagged_of};

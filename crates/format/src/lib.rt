@@ -1,4 +1,7 @@
 // The types of a file's answers; its definitions stand in specs/, its laws in proofs/. No function.
+
+#![tactic(auto)]
+
 use text::{Reading, Span};
 
 // The kind of a file.

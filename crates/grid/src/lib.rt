@@ -1,4 +1,7 @@
 // Where lines and cells stand: total functions on bytes, apart from the check.
+
+#![tactic(auto)]
+
 ghost use Rattle.std.specs.Prelude.{◌≡◌, cond, false, ◌+◌, ◌≤◌, length, take, drop, eqb};
 ghost use Rattle.format.specs.Records.{no_place};
 ghost use Rattle.line_bytes.specs.Cells.{line_at, pieces, cell_end};

@@ -1,4 +1,7 @@
 // The header lines of a CTD file, each by the rules of its line.
+
+#![tactic(auto)]
+
 ghost use Rattle.std.specs.Prelude.{◌≡◌, ◌+◌, length};
 ghost use Rattle.line_bytes.specs.Cells.{line_at};
 ghost use Rattle.format.specs.Faults.{member};

@@ -1,4 +1,7 @@
 // A column by its name; the names and units of columns and the headers of a CTD file, handed out. The file is checked first.
+
+#![tactic(auto)]
+
 ghost use Rattle.std.specs.Prelude.{◌≡◌, ◌+◌, ◌≤◌, length};
 ghost use Rattle.line_bytes.specs.Spaces.{IsPart};
 ghost use Rattle.format.specs.Labels.{none_named, named_of, name_place, unit_place, no_header, header_for, place_refusal, header_refusal};

@@ -1,1 +1,4 @@
 // What follows from the definitions of a file and its calls; no code of its own.
+
+#![tactic(auto)]
+

@@ -10,7 +10,7 @@ use native.Mathlib.Omega.{arith}
 use lib.ListN.{length, get_or, take, drop, replicate, length-take, length-append}
 use lib.Seq.{append_snoc, slice, slice-cons, slice_empty, length-slice, take-nil, take-suc, take-take, drop-drop, drop-append-le, length-take-le}
 use lib.Dec.{leb}
-use borrow.Author.Tests.{eq-eqb, ne_eqb, le-leb, lt-leb, leb-true, not_true}
+use borrow.Author.Tests.{eq-eqb, ne_eqb, le-leb, lt-leb, leb-true, not-true}
 use Rattle.line_bytes.specs.declared.Span.{Span}
 use Rattle.line_bytes.specs.Bytes.{is_space, every}
 use Rattle.line_bytes.specs.Spaces.{trim_front, keep, trim_end, trim, indent, trim_span}
@@ -204,14 +204,14 @@ is_solid x = not (is_space x)
 trim_front_solid : (t : List ℕ) → every is_solid t ≡ true → trim_front t ≡ t
 unfolding trim_front
 trim_front_solid [] h = refl
-trim_front_solid (x ∷ xs) h = trim_front-other x xs (not_true (is_space x) (every-cons is_solid x xs h).0)
+trim_front_solid (x ∷ xs) h = trim_front-other x xs (not-true (is_space x) (every-cons is_solid x xs h).0)
 
 trim_end_solid : (t : List ℕ) → every is_solid t ≡ true → trim_end t ≡ t
 unfolding trim_end
 trim_end_solid [] h = refl
 trim_end_solid (x ∷ xs) h =
     let w = every-cons is_solid x xs h in
-    ap (keep x) (trim_end_solid xs w.1) ∙ keep_full x xs (not_true (is_space x) w.0)
+    ap (keep x) (trim_end_solid xs w.1) ∙ keep_full x xs (not-true (is_space x) w.0)
 
 pub trim_solid : (t : List ℕ) → every is_solid t ≡ true → trim t ≡ t
 unfolding trim

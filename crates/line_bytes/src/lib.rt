@@ -1,4 +1,7 @@
 // The bytes of lines and names: UTF-8, returns and controls, the spaces at both ends, texts compared; and the refusals, kinds and limits, each number under its name.
+
+#![tactic(auto)]
+
 ghost use Rattle.std.specs.Prelude.{◌≡◌};
 ghost use Rattle.line_bytes.specs.Spaces.{trim_span, IsPart};
 ghost use Rattle.line_bytes.specs.Lines.{ill_formed, return_at, control_at};

@@ -1,4 +1,7 @@
 // Line 1, which says what kind of file it is.
+
+#![tactic(auto)]
+
 ghost use Rattle.std.specs.Prelude.{◌≡◌};
 ghost use Rattle.line_bytes.specs.Cells.{line_at};
 ghost use Rattle.format.specs.Places.{is_mark};

@@ -1,4 +1,7 @@
 // A line of a file: where it ends, and the first of rules 1 to 5 that it breaks.
+
+#![tactic(auto)]
+
 ghost use Rattle.std.specs.Prelude.{◌≡◌, false, ◌+◌, ◌^◌, min, ◌≤◌, ◌<◌, length};
 ghost use Rattle.format.specs.Faults.{breaks};
 ghost use Rattle.line_bytes.specs.Inner.Scans.{Scan};

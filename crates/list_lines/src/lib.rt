@@ -1,4 +1,7 @@
 // One line of a correction list: any bytes are read, and are its fields or malformed.
+
+#![tactic(auto)]
+
 ghost use Rattle.std.specs.Prelude.{◌≡◌};
 ghost use Rattle.line_bytes.specs.Spaces.{IsPart};
 ghost use Rattle.orders.specs.ListLines.{line_read};

@@ -1,4 +1,7 @@
 // Names by place: name k stands, with its spaces, from starts[k] to ends[k]. Where one stands, the first bad or repeated one, and the station names.
+
+#![tactic(auto)]
+
 ghost use Rattle.std.specs.Prelude.{◌≡◌, min, ◌≤◌, [], length, get_or};
 ghost use Rattle.format.specs.Faults.{has_all, place_in};
 ghost use Rattle.format.specs.Headers.{station_names};

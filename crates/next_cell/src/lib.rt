@@ -1,4 +1,7 @@
 // The next cell of a file from the place where it starts, in one pass over its bytes, for whoever walks from cell to cell. Any bytes and any place may come in.
+
+#![tactic(auto)]
+
 ghost use Rattle.std.specs.Prelude.{◌≡◌, true, false, ◌+◌, ◌-◌, ◌≤◌, ◌<◌, length, get_or};
 ghost use Rattle.std.proofs.Math.Seq.{slice};
 ghost use Rattle.line_bytes.specs.Bytes.{comma, space};

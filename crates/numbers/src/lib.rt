@@ -1,5 +1,8 @@
 // The text of a number: its size, how long it is, and a number or a digit set at the right of a cell of lent bytes, spaces to the left.
 // Every call takes every input: where the text has no room, or is none, not one byte is written.
+
+#![tactic(auto)]
+
 ghost use Rattle.std.specs.Prelude.{◌≡◌};
 ghost use Rattle.numbers.specs.Texts.{size, text_length};
 ghost use Rattle.numbers.specs.Patches.{number_set, digit_set};

@@ -1,4 +1,7 @@
 // A line's cells by the place where the line goes on, for whoever goes row by row in a file that was opened before. Any bytes and any place may come in.
+
+#![tactic(auto)]
+
 ghost use Rattle.std.specs.Prelude.{◌≡◌};
 ghost use Rattle.format.specs.ByPlace.{line_after, cell_in, decimal_in, no_flag, flag_in, decimal_step, flag_step};
 ghost use Rattle.opened.specs.Inner.Parts.{no_part, part_of};

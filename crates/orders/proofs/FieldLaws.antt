@@ -3,7 +3,7 @@ use Prim.Native.Nat.{ℕ, ◌+◌, ◌<◌}
 use mathlib.Core.Path.{◌≡◌, refl, sym, ap, ◌∙◌}
 use mathlib.Core.Logic.{⊎_elim}
 use mathlib.Core.List.{List, [], ◌∷◌}
-use mathlib.Core.Bool.{Bool, true, false, cond, ◌&&◌, and_true, and-false}
+use mathlib.Core.Bool.{Bool, true, false, cond, ◌&&◌, and-true, and-false}
 use native.Mathlib.Nat.{eq-or-lt_of_le}
 use native.Mathlib.Omega.{arith}
 use lib.ListN.{length, get_or}
@@ -122,7 +122,7 @@ module _ {s : List ℕ} {a b c e : ℕ} (t : Ends s c e) where
       go : (z : Bool) → eqb (cell_end 9 s c) e ≡ z
           → cond (good_at s a b c && z) (line_with s a b c) malformed ≡ by_fields (field s 0 ∷ field s a ∷ field s b ∷ fields s c)
       go true f =
-          rw (and_true (good_at s a b c))
+          rw (and-true (good_at s a b c))
           (fields-line a (field s 0) (field s a) (field s b) (field s c) (second-start s a h)
           ∙ sym (ap (λ (l : List (List ℕ)). by_fields (field s 0 ∷ field s a ∷ field s b ∷ l)) (fields-end t (eqb-true (cell_end 9 s c) e f))))
       go false f =

@@ -7,7 +7,7 @@ use native.Mathlib.Omega.{arith}
 use lib.ListN.{length, get_or, length-map, get_or-map}
 use lib.Dec.{eqb, leb, ltb}
 use lib.IntN.{ℤ}
-use borrow.Author.Tests.{leb-true, ltb-true, ltb-false, eqb-true, not_false}
+use borrow.Author.Tests.{leb-true, ltb-true, ltb-false, eqb-true, not-false}
 use Rattle.line_bytes.specs.Bytes.{every}
 use Rattle.line_bytes.specs.Names.{begins_ctd}
 use Rattle.verdicts.specs.Verdicts.{Verdict, blank, wrong, out_of_range, good, is_good}
@@ -64,7 +64,7 @@ pub record Asked (t : Table) (n : ℕ) (sh : Shape) (o : Order) : Type 0 where
 column-good : (t : Table) (n : ℕ) (o : Order) → Inside o.row n o.column (length t.names) → not_correctable t o ≡ false → Measured t o.column
 column-good t n o w e = record {
   in-line = omega (arith, w.column, w.columns);
-  kind = eqb-true (kind_at t o.column) 0 (not_false (is_measured t o.column) e);
+  kind = eqb-true (kind_at t o.column) 0 (not-false (is_measured t o.column) e);
 }
 
 -- 23
@@ -85,7 +85,7 @@ number-good o e =
 -- 24
 flag-good : (t : Table) (o : Order) → bad_flag t o ≡ false → has_flag t o.column ≡ true → in_set (begins_ctd (name_at t o.column)) o.flag ≡ true
 unfolding bad_flag
-flag-good t o e h = rw h at (not_false (cond (has_flag t o.column) (in_set (begins_ctd (name_at t o.column)) o.flag) (eqb o.flag 0)) e)
+flag-good t o e h = rw h at (not-false (cond (has_flag t o.column) (in_set (begins_ctd (name_at t o.column)) o.flag) (eqb o.flag 0)) e)
 
 -- 25
 neither : (a b : Bool) → (a || b) ≡ false → (a ≡ false) × (b ≡ false)
@@ -102,7 +102,7 @@ text-fits own (x ∷ es) e =
 asked : (t : Table) (n : ℕ) (sh : Shape) (o : Order) → NoneHolds (tests_of t n (blank_row sh (line_of t o)) o) → Asked t n sh o
 asked t n sh o w =
     let ts = tests_of t n (blank_row sh (line_of t o)) o in
-    let h = there-inside t n o.row o.column (not_false (is_there t n o.row o.column) (passed 21 ts w)) in
+    let h = there-inside t n o.row o.column (not-false (is_there t n o.row o.column) (passed 21 ts w)) in
     let x = text-fits (blank_row sh (line_of t o)) (number_entries t o) (passed 25 ts w) in
     record {
       row = h.row;

@@ -7,7 +7,7 @@ use mathlib.Core.List.{List}
 use native.Mathlib.Omega.{arith}
 use lib.ListN.{length, length-map, get_or-eq_default}
 use lib.Dec.{eqb, leb, ltb}
-use borrow.Author.Tests.{leb-true, leb-false, lt-ltb, le-ltb, ltb-true, ltb-false, eq-eqb, ne_eqb, eqb-true, not_false}
+use borrow.Author.Tests.{leb-true, leb-false, lt-ltb, le-ltb, ltb-true, ltb-false, eq-eqb, ne_eqb, eqb-true, not-false}
 use Rattle.line_bytes.specs.Bytes.{every}
 use Rattle.line_bytes.specs.Names.{begins_ctd}
 use Rattle.verdicts.specs.Verdicts.{wrong, out_of_range, good, is_good}
@@ -82,10 +82,10 @@ has-column t c h = go (ltb (c - 1) (length t.names)) refl
 
 -- the test by whether there is a flag column
 test-flagged : (b ctd : Bool) (v : ℕ) → b ≡ true → (not (cond b (in_set ctd v) (eqb v 0)) ≡ false) ↔ (in_set ctd v ≡ true)
-test-flagged b ctd v h = rw h (λ e. not_false (in_set ctd v) e, λ e. ap not e)
+test-flagged b ctd v h = rw h (λ e. not-false (in_set ctd v) e, λ e. ap not e)
 
 test-bare : (b ctd : Bool) (v : ℕ) → b ≡ false → (not (cond b (in_set ctd v) (eqb v 0)) ≡ false) ↔ (v ≡ 0)
-test-bare b ctd v h = rw h (λ e. eqb-true v 0 (not_false (eqb v 0) e), λ e. ap not (eq-eqb v 0 e))
+test-bare b ctd v h = rw h (λ e. eqb-true v 0 (not-false (eqb v 0) e), λ e. ap not (eq-eqb v 0 e))
 
 pub flags_exactly : FlagExactly
 unfolding bad_flag

@@ -1,5 +1,8 @@
 // A correction, its answer, and a line of a correction list: the types, and in specs/ and proofs/ what they mean and what follows, demand 3 among it. No
 // function.
+
+#![tactic(auto)]
+
 use text::Span;
 
 // A correction: the measurement at a row and column, counted from 1, set to so many millionths, written with so many decimals, and to a flag, which is 0

@@ -1,4 +1,7 @@
 // Texts laid out in room that the caller lends, as far as it goes; each call answers where its text ends.
+
+#![tactic(auto)]
+
 ghost use Rattle.std.specs.Prelude.{◌≡◌};
 ghost use Rattle.pages.specs.Pages.{page, lay_byte, lay};
 ghost use Rattle.numbers.specs.Texts.{whole_text};

@@ -1,5 +1,8 @@
 // The calls for programs in other languages: numbers and bytes only. Each writes the numbers of its answer into the lent array, refusal number, line and column
 // first (a list line has its number alone), and answers the refusal number, 0 where nothing is refused; a decimal answers which reading it is.
+
+#![tactic(auto)]
+
 ghost use Rattle.std.specs.Prelude.{◌≡◌};
 ghost use Rattle.format.specs.Answers.{checked_of, place_for, reading_for, flagged_of};
 ghost use Rattle.format.specs.ReadingNumbers.{reading_case, read_millionths, read_value};

@@ -1,5 +1,8 @@
 // The calls on a file opened once, on its names, units and headers and on whole columns, for programs in other languages: numbers and bytes only, as in the
 // crate pochahuic.
+
+#![tactic(auto)]
+
 ghost use Rattle.std.specs.Prelude.{◌≡◌, length};
 ghost use Rattle.line_bytes.specs.Cells.{line_at};
 ghost use Rattle.format.specs.Answers.{reading_for, flagged_of};

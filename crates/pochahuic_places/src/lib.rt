@@ -1,5 +1,8 @@
 // The calls by place for programs in other languages, for whoever opened the file before: numbers and bytes only, as in the crate pochahuic. None of them checks the
 // file, and all take any bytes and any place in them.
+
+#![tactic(auto)]
+
 ghost use Rattle.std.specs.Prelude.{◌≡◌};
 ghost use Rattle.line_bytes.specs.Cells.{line_at};
 ghost use Rattle.format.specs.ByPlace.{cell_in, line_after};

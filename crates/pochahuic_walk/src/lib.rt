@@ -1,4 +1,7 @@
 // The walk over a file's cells for programs in other languages: a cursor is ten numbers, which the caller keeps and lends again.
+
+#![tactic(auto)]
+
 ghost use Rattle.std.specs.Prelude.{◌≡◌};
 ghost use Rattle.pochahuic_walk.specs.Cursors.{cursor_numbers, cursor_of};
 ghost use Rattle.cursors.specs.Walk.{open_of, step_of};

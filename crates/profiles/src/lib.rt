@@ -1,4 +1,7 @@
 // The profiles of a file, and their station values.
+
+#![tactic(auto)]
+
 ghost use Rattle.std.specs.Prelude.{◌≡◌};
 ghost use Rattle.line_bytes.specs.Spaces.{IsPart};
 ghost use Rattle.format.specs.Records.{profile_of, stationed_of, station_place, station_refusal, station_answer};

@@ -1,4 +1,7 @@
 // Reports on the exchange file on standard input.
+
+#![tactic(auto)]
+
 use libc::{STDIN_FILENO, STDOUT_FILENO};
 use report_text::{INPUT_BYTES, PAGE_BYTES};
 

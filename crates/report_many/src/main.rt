@@ -1,4 +1,7 @@
 // The report program on 65,536 bytes with as many profiles as they can hold.
+
+#![tactic(auto)]
+
 use libc::{STDIN_FILENO, STDOUT_FILENO};
 use report_text::{INPUT_BYTES, PAGE_BYTES};
 

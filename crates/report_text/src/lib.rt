@@ -1,4 +1,7 @@
 // The text of the report on a file, laid out in room that the caller lends.
+
+#![tactic(auto)]
+
 ghost use Rattle.std.specs.Prelude.{◌≡◌, ◌++◌, length, take, drop};
 ghost use Rattle.io.specs.Counts.{IsPrefixLen};
 ghost use Rattle.pages.specs.Pages.{page, lay};

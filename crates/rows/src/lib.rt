@@ -1,4 +1,7 @@
 // A data line: its cells judged by their columns' kinds, its missing readings, and its key beside that of another row.
+
+#![tactic(auto)]
+
 ghost use Rattle.std.specs.Prelude.{◌≡◌, cond};
 ghost use Rattle.line_bytes.specs.Bytes.{equal};
 ghost use Rattle.verdicts.specs.Rows.{no_keys};

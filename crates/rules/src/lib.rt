@@ -1,4 +1,7 @@
 // The check: the run over a file's lines, place by place.
+
+#![tactic(auto)]
+
 ghost use Rattle.std.specs.Prelude.{◌≡◌};
 ghost use Rattle.format.specs.Answers.{checked_of};
 ghost use Rattle.format.specs.Opened.{opened_of};

@@ -1,4 +1,7 @@
 // Runs the bench samples that are not proved, through the public calls: prints `ok`, or the name of the first one that fails.
+
+#![tactic(auto)]
+
 use libc::STDOUT_FILENO;
 
 mod checks;

@@ -1,5 +1,8 @@
 // The texts of an exchange file: the catalogue of names and kinds, and the reading of a decimal.
 // What the crates below have for callers is handed on from here: the calls on bytes, and on cells judged by their kinds.
+
+#![tactic(auto)]
+
 ghost use Rattle.std.specs.Prelude.{◌≡◌};
 ghost use Rattle.text.specs.Catalogue.{names, kinds, kind_in};
 ghost use Rattle.text.specs.Reading.{reading_at};

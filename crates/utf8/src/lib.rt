@@ -1,4 +1,7 @@
 // UTF-8 by RFC 3629, section 4: its nine alternatives as a table, and the character that a text begins with, by the rows of any such table.
+
+#![tactic(auto)]
+
 ghost use Rattle.std.specs.Prelude.{◌≡◌, length};
 ghost use Rattle.utf8.specs.Syntax.{to, within, alternatives, takes, character_in};
 ghost use Rattle.utf8.specs.Rows.{laid, row_in, rows_in};

@@ -1,6 +1,9 @@
 // Answers the requests on standard input, one line each: check, cell, decimal, flag, profile, correct, line, report; open, named, name, unit, header, station, values,
 // flags, rows, column; walk. A request is a line with its numbers, then a block of bytes and a line feed, of a file or a list line; named and station have a second one, the
 // name. The last numbers of the line are the lengths of the blocks.
+
+#![tactic(auto)]
+
 use crate::answers::answer;
 use crate::input::{read_bytes, read_head, skip};
 use crate::named::answer_with_name;

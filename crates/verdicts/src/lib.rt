@@ -1,4 +1,7 @@
 // What a cell of each kind may say: the record of a judged cell and of a row of them, the ranges of the kinds, and what a good cell leaves noted. No call here scans a cell.
+
+#![tactic(auto)]
+
 ghost use Rattle.std.specs.Prelude.{◌≡◌, ◌-◌, ◌^◌};
 ghost use Rattle.verdicts.specs.Verdicts.{signed};
 ghost use Rattle.verdicts.specs.Judge.{stops_at};

@@ -1,4 +1,7 @@
 // A file walked cell by cell: checked once when it is opened, then one pass over the bytes of its data lines. Any bytes and any cursor may come in.
+
+#![tactic(auto)]
+
 ghost use Rattle.std.specs.Prelude.{◌≡◌};
 ghost use Rattle.line_bytes.specs.Spaces.{IsPart};
 ghost use Rattle.cursors.specs.Walk.{at_end, on_cell, open_of, step_of, part_of};

@@ -1,4 +1,7 @@
 // The walker, which holds the lent file with its place in it: each call is one of the crate walk on both.
+
+#![tactic(auto)]
+
 ghost use Rattle.std.specs.Prelude.{◌≡◌};
 ghost use Rattle.line_bytes.specs.Spaces.{IsPart};
 ghost use Rattle.cursors.specs.Walkers.{opened_on, walked_on, part_in};

@@ -1,4 +1,7 @@
 // A whole column of a file in one call: the file is checked once and then read from row to row into lent tables.
+
+#![tactic(auto)]
+
 ghost use Rattle.std.specs.Prelude.{min, ◌≡◌, length};
 ghost use Rattle.format.specs.Answers.{reading_for, flagged_of};
 ghost use Rattle.format.specs.ReadingNumbers.{reading_case, read_millionths, read_value};

@@ -1,4 +1,4 @@
-use borrow.Author.Tests.{not_true, not_false}
+use borrow.Author.Tests.{not-true, not-false}
 use Rattle.headers.proofs.HeaderLaws.{said-other, said_bad, said-many, said-good}
 use borrow.Author.Rules.{rules}
 use Rattle.headers.proofs.headers_said.Statement.{statement}
@@ -18,7 +18,7 @@ returns c =
     let m = c.before in
     let t = m.before.before in
     let p = t.before.before.requires in
-    said-other p _ t.trimmed.ensures.content _ m.same.ensures (not_true _ c.if1.true)
+    said-other p _ t.trimmed.ensures.content _ m.same.ensures (not-true _ c.if1.true)
 
 add-whole : tie.Need-overflow-add-whole
 add-whole c = search rules
@@ -32,7 +32,7 @@ returns-2 c =
     let m = w.before.before.before in
     let t = m.before.before in
     let p = t.before.before.requires in
-    said_bad p _ t.trimmed.ensures.content _ m.same.ensures (not_false _ w.before.before.if1.false) _ w.whole.ensures c.if2.true
+    said_bad p _ t.trimmed.ensures.content _ m.same.ensures (not-false _ w.before.before.if1.false) _ w.whole.ensures c.if2.true
 
 returns-3 : tie.Need-returns-3
 returns-3 c =
@@ -40,7 +40,7 @@ returns-3 c =
     let m = w.before.before.before in
     let t = m.before.before in
     let p = t.before.before.requires in
-    said-many p _ t.trimmed.ensures.content _ m.same.ensures (not_false _ w.before.before.if1.false) _ w.whole.ensures c.before.before.if2.false c.if3.true
+    said-many p _ t.trimmed.ensures.content _ m.same.ensures (not-false _ w.before.before.if1.false) _ w.whole.ensures c.before.before.if2.false c.if3.true
 
 returns-4 : tie.Need-returns-4
 returns-4 c =
@@ -48,7 +48,7 @@ returns-4 c =
     let m = w.before.before.before in
     let t = m.before.before in
     let p = t.before.before.requires in
-    said-good p _ t.trimmed.ensures.content _ m.same.ensures (not_false _ w.before.before.if1.false) _ w.whole.ensures c.before.before.if2.false c.if3.false
+    said-good p _ t.trimmed.ensures.content _ m.same.ensures (not-false _ w.before.before.if1.false) _ w.whole.ensures c.before.before.if2.false c.if3.false
 
 pub headers-said-spec : {M : Type 1} → statement M
 headers-said-spec =

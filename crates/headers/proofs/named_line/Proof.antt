@@ -1,5 +1,5 @@
 use mathlib.Core.Path.{sym, ◌∙◌}
-use borrow.Author.Tests.{not_true, not_false}
+use borrow.Author.Tests.{not-true, not-false}
 use Rattle.headers.proofs.HeaderLaws.{header_refused, named_broken, named_none, named-long, named-wrong, named-good}
 use borrow.Author.Rules.{rules}
 use Rattle.headers.proofs.named_line.Statement.{statement}
@@ -57,7 +57,7 @@ returns-4 c =
     let l = q.before.before.before in
     header_refused _ _ _ _ _ _ c.header-refused4.ensures
     (named-wrong _ _ _ l.line_at_lem.ensures q.before.if1.false _ q.equals-from.ensures t.before.if2.false _ t.trimmed.ensures.content
-    n.before.if3.false (sym n.is_name.ensures ∙ not_true _ c.before.if4.true))
+    n.before.if3.false (sym n.is_name.ensures ∙ not-true _ c.before.if4.true))
 
 returns-5 : tie.Need-returns-5
 returns-5 c =
@@ -66,7 +66,7 @@ returns-5 c =
     let q = t.before.before.before in
     let l = q.before.before.before in
     named-good _ _ _ l.line_at_lem.ensures q.before.if1.false _ q.equals-from.ensures t.before.if2.false _ t.trimmed.ensures.content
-    n.before.if3.false (sym n.is_name.ensures ∙ not_false _ c.if4.false)
+    n.before.if3.false (sym n.is_name.ensures ∙ not-false _ c.if4.false)
 
 pub named-line-spec : {M : Type 1} → statement M
 named-line-spec =

@@ -1,5 +1,5 @@
 use mathlib.Core.Path.{sym, ◌∙◌}
-use borrow.Author.Tests.{not_true, not_false}
+use borrow.Author.Tests.{not-true, not-false}
 use Rattle.orders.proofs.ListLineLaws.{line_refused, line-by_fields}
 use borrow.Author.Rules.{rules}
 use Rattle.list_lines.proofs.read_list_line.Statement.{statement}
@@ -12,13 +12,13 @@ malformed-requires : tie.Need-malformed-requires
 malformed-requires c κs = search rules
 
 returns : tie.Need-returns
-returns c = line_refused _ c.malformed.ensures (sym c.before.before.is-one-line.ensures ∙ not_true _ c.before.if1.true)
+returns c = line_refused _ c.malformed.ensures (sym c.before.before.is-one-line.ensures ∙ not-true _ c.before.if1.true)
 
 fields-of-requires : tie.Need-fields-of-requires
-fields-of-requires c κs = sym c.before.is-one-line.ensures ∙ not_false _ c.if1.false
+fields-of-requires c κs = sym c.before.is-one-line.ensures ∙ not-false _ c.if1.false
 
 returns-2 : tie.Need-returns-2
-returns-2 c = line-by_fields _ c.fields-of.ensures (sym c.before.before.is-one-line.ensures ∙ not_false _ c.before.if1.false)
+returns-2 c = line-by_fields _ c.fields-of.ensures (sym c.before.before.is-one-line.ensures ∙ not-false _ c.before.if1.false)
 
 pub read-list-line-spec : {M : Type 1} → statement M
 read-list-line-spec =

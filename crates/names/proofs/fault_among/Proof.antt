@@ -6,7 +6,7 @@ use borrow.Author.Rules.{rules}
 use lib.ListN.{get_or, take}
 use mathlib.Core.List.{[]}
 use mathlib.Core.Bool.{false}
-use borrow.Author.Tests.{not_true, not_false}
+use borrow.Author.Tests.{not-true, not-false}
 use Rattle.format.specs.declared.NameFault.TheVariants.{Clean}
 use Rattle.format.specs.Faults.{member}
 use Rattle.format.specs.Inner.Names.{names_at}
@@ -88,7 +88,7 @@ names-again c =
     let e : l.j ≡ o.k = omega arith in
     let m : member (get_or ns o.k []) (take o.k ns) ≡ false = rw e at l.invariant.2 in
     let g = name-good a.s.now a.n a.starts.now a.ends.now o.k c.before.before.before.before.before.names-test.true st.requires.0 st.requires.1 _ c.before.before.before.before.name-at.ensures _ c.before.before.before.is_name.ensures in
-    (omega arith, l.invariant.1, o.invariant.2 ∙ fault-step ns o.k (omega (arith, z)) (g ∙ not_false _ c.before.before.if1.false) m)
+    (omega arith, l.invariant.1, o.invariant.2 ∙ fault-step ns o.k (omega (arith, z)) (g ∙ not-false _ c.before.before.if1.false) m)
 
 returns : tie.Need-returns invariant-loop decreases-loop invariant-names decreases-names
 returns c =
@@ -107,7 +107,7 @@ returns-2 c =
     let ns = names_at a.s.now a.n a.starts.now a.ends.now in
     let z = names-length a.s.now a.n a.starts.now a.ends.now st.requires.0 st.requires.1 in
     let g = name-good a.s.now a.n a.starts.now a.ends.now o.k c.before.before.before.names-test.true st.requires.0 st.requires.1 _ c.before.before.name-at.ensures _ c.before.is_name.ensures in
-    sym (o.invariant.2 ∙ fault_bad ns o.k (omega (arith, z)) (g ∙ not_true _ c.if1.true))
+    sym (o.invariant.2 ∙ fault_bad ns o.k (omega (arith, z)) (g ∙ not-true _ c.if1.true))
 
 returns-3 : tie.Need-returns-3 invariant-loop decreases-loop invariant-names decreases-names
 returns-3 c =
@@ -120,7 +120,7 @@ returns-3 c =
     let x = name-given a.s.now a.n a.starts.now a.ends.now o.k c.before.before.before.before.before.before.before.before.before.names-test.true st.requires.0 st.requires.1 _ c.before.before.name-at3.ensures in
     let q = name-equal a.s.now a.n a.starts.now a.ends.now l.j (omega arith) st.requires.0 st.requires.1 _ c.before.before.before.name-at2.ensures _ _ c.before.same.ensures in
     let g = name-good a.s.now a.n a.starts.now a.ends.now o.k c.before.before.before.before.before.before.before.before.before.names-test.true st.requires.0 st.requires.1 _ c.before.before.before.before.before.before.before.before.name-at.ensures _ c.before.before.before.before.before.before.before.is_name.ensures in
-    sym (o.invariant.2 ∙ fault_repeated ns o.k (omega (arith, z)) (g ∙ not_false _ c.before.before.before.before.before.before.if1.false) (member_at ns (get_or ns o.k []) l.j o.k c.before.before.before.before.loop-test.true (omega (arith, z)) (rw x at (q ∙ c.if2.true))))
+    sym (o.invariant.2 ∙ fault_repeated ns o.k (omega (arith, z)) (g ∙ not-false _ c.before.before.before.before.before.before.if1.false) (member_at ns (get_or ns o.k []) l.j o.k c.before.before.before.before.loop-test.true (omega (arith, z)) (rw x at (q ∙ c.if2.true))))
 
 pub fault-among-spec : {M : Type 1} → statement M
 fault-among-spec =

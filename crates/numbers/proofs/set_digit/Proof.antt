@@ -1,7 +1,7 @@
 use mathlib.Core.Path.{sym, ◌∙◌}
 use native.Mathlib.Omega.{arith}
 use borrow.Author.Rules.{rules}
-use borrow.Author.Tests.{not_true, not_false}
+use borrow.Author.Tests.{not-true, not-false}
 use Rattle.numbers.proofs.PatchLaws.{digit-none, digit-kept, digit_in, digit_is}
 use Rattle.numbers.proofs.PutLaws.{cell_room, cell_left, cell_set}
 use Rattle.numbers.proofs.set_digit.Statement.{statement}
@@ -16,14 +16,14 @@ has-room-requires c κs = search rules
 returns-2 : tie.Need-returns-2
 returns-2 c =
     let a = c.before.before.before.before.args in
-    digit-kept a.file.now a.cell a.digit c.before.before.if1.false c.before.has_room.ensures (not_true _ c.if2.true)
+    digit-kept a.file.now a.cell a.digit c.before.before.if1.false c.before.has_room.ensures (not-true _ c.if2.true)
 
 add-put-byte : tie.Need-overflow-add-put-byte
 add-put-byte c =
     let x = c.before.before in
     let a = x.before.before.before.before.args in
     let few = x.before.before.if1.false in
-    let i = digit_in a.file.now a.cell a.digit few x.before.has_room.ensures (not_false _ x.if2.false) in
+    let i = digit_in a.file.now a.cell a.digit few x.before.has_room.ensures (not-false _ x.if2.false) in
     omega (arith, i.inside)
 
 cast-put-byte : tie.Need-overflow-cast-put-byte
@@ -37,7 +37,7 @@ put-byte-requires c κs =
     let x = c.before.before in
     let a = x.before.before.before.before.args in
     let few = x.before.before.if1.false in
-    let i = digit_in a.file.now a.cell a.digit few x.before.has_room.ensures (not_false _ x.if2.false) in
+    let i = digit_in a.file.now a.cell a.digit few x.before.has_room.ensures (not-false _ x.if2.false) in
     cell_room i
 
 clear-requires : tie.Need-clear-requires
@@ -45,7 +45,7 @@ clear-requires c κs =
     let x = c.before.before.before.before.before.before in
     let a = x.before.before.before.before.args in
     let few = x.before.before.if1.false in
-    let i = digit_in a.file.now a.cell a.digit few x.before.has_room.ensures (not_false _ x.if2.false) in
+    let i = digit_in a.file.now a.cell a.digit few x.before.has_room.ensures (not-false _ x.if2.false) in
     cell_left i c.before.before.before.put_byte.ensures
 
 same_length : tie.Need-same-length
@@ -56,7 +56,7 @@ returns-3 c =
     let x = c.before.before.before.before.before.before.before.before.before in
     let a = x.before.before.before.before.args in
     let few = x.before.before.if1.false in
-    let i = digit_in a.file.now a.cell a.digit few x.before.has_room.ensures (not_false _ x.if2.false) in
+    let i = digit_in a.file.now a.cell a.digit few x.before.has_room.ensures (not-false _ x.if2.false) in
     cell_set i c.before.before.before.before.before.before.put_byte.ensures c.before.before.clear.ensures ∙ sym (digit_is a.file.now a.cell a.digit few i)
 
 pub set-digit-spec : {M : Type 1} → statement M

@@ -1,7 +1,7 @@
 use mathlib.Core.Path.{sym, ◌∙◌}
 use native.Mathlib.Omega.{arith}
 use borrow.Author.Rules.{rules}
-use borrow.Author.Tests.{not_true, not_false}
+use borrow.Author.Tests.{not-true, not-false}
 use Rattle.numbers.proofs.PatchLaws.{number-none, number-kept, number_in_lem, number_is}
 use Rattle.numbers.proofs.PutLaws.{cell_room, cell_left, cell_set}
 use Rattle.numbers.proofs.set_number.Statement.{statement}
@@ -19,14 +19,14 @@ has-room-requires c κs = search rules
 returns-2 : tie.Need-returns-2
 returns-2 c =
     let a = c.before.before.before.before.before.args in
-    number-kept a.file.now a.cell a.minus a.size a.decimals c.before.before.before.if1.false c.before.before.text-length.ensures c.before.has_room.ensures (not_true _ c.if2.true)
+    number-kept a.file.now a.cell a.minus a.size a.decimals c.before.before.before.if1.false c.before.before.text-length.ensures c.before.has_room.ensures (not-true _ c.if2.true)
 
 add-put-text : tie.Need-overflow-add-put-text
 add-put-text c =
     let x = c.before.before in
     let a = x.before.before.before.before.before.args in
     let few = x.before.before.before.if1.false in
-    let i = number_in_lem a.file.now a.cell a.minus a.size a.decimals few x.before.before.text-length.ensures x.before.has_room.ensures (not_false _ x.if2.false) in
+    let i = number_in_lem a.file.now a.cell a.minus a.size a.decimals few x.before.before.text-length.ensures x.before.has_room.ensures (not-false _ x.if2.false) in
     omega (arith, i.inside)
 
 put-text-requires : tie.Need-put-text-requires
@@ -34,7 +34,7 @@ put-text-requires c κs =
     let x = c.before.before in
     let a = x.before.before.before.before.before.args in
     let few = x.before.before.before.if1.false in
-    let i = number_in_lem a.file.now a.cell a.minus a.size a.decimals few x.before.before.text-length.ensures x.before.has_room.ensures (not_false _ x.if2.false) in
+    let i = number_in_lem a.file.now a.cell a.minus a.size a.decimals few x.before.before.text-length.ensures x.before.has_room.ensures (not-false _ x.if2.false) in
     (few, cell_room i)
 
 clear-requires : tie.Need-clear-requires
@@ -42,7 +42,7 @@ clear-requires c κs =
     let x = c.before.before.before.before.before.before in
     let a = x.before.before.before.before.before.args in
     let few = x.before.before.before.if1.false in
-    let i = number_in_lem a.file.now a.cell a.minus a.size a.decimals few x.before.before.text-length.ensures x.before.has_room.ensures (not_false _ x.if2.false) in
+    let i = number_in_lem a.file.now a.cell a.minus a.size a.decimals few x.before.before.text-length.ensures x.before.has_room.ensures (not-false _ x.if2.false) in
     cell_left i c.before.before.before.put-text.ensures
 
 same_length : tie.Need-same-length
@@ -53,7 +53,7 @@ returns-3 c =
     let x = c.before.before.before.before.before.before.before.before.before in
     let a = x.before.before.before.before.before.args in
     let few = x.before.before.before.if1.false in
-    let i = number_in_lem a.file.now a.cell a.minus a.size a.decimals few x.before.before.text-length.ensures x.before.has_room.ensures (not_false _ x.if2.false) in
+    let i = number_in_lem a.file.now a.cell a.minus a.size a.decimals few x.before.before.text-length.ensures x.before.has_room.ensures (not-false _ x.if2.false) in
     cell_set i c.before.before.before.before.before.before.put-text.ensures c.before.before.clear.ensures ∙ sym (number_is a.file.now a.cell a.minus a.size a.decimals few i)
 
 pub set-number-spec : {M : Type 1} → statement M

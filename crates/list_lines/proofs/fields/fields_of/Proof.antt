@@ -1,7 +1,7 @@
 use mathlib.Core.Path.{refl, ◌∙◌}
 use mathlib.Core.Bool.{true, false}
 use native.Mathlib.Omega.{arith}
-use borrow.Author.Tests.{not_true, not_false}
+use borrow.Author.Tests.{not-true, not-false}
 use Rattle.orders.proofs.OneLineLaws.{one-ends}
 use Rattle.orders.proofs.ListLineLaws.{name_from, name-to, fields_read_lem, millionths-back}
 use borrow.Author.Rules.{rules}
@@ -58,7 +58,7 @@ returns c =
     c.malformed.ensures
     ∙ fields_read_lem (one-ends _ j.before.before.before.before.requires) j.before.before.whole.ensures j.before.after.ensures j.judge.ensures
     v.before.before.before.after2.ensures v.before.before.judge2.ensures v.before.after3.ensures v.whole2.ensures
-    i.is_name.result false _ i.is_name.ensures refl (not_true _ c.before.if1.true)
+    i.is_name.result false _ i.is_name.ensures refl (not-true _ c.before.if1.true)
 
 sub-t12 : tie.Need-overflow-sub-t12
 sub-t12 c = let j = c.before.before.before.before.before.before.before.before.before.before.before.before in name_from (one-ends _ j.before.before.before.before.requires) j.before.before.whole.ensures j.before.after.ensures j.judge.ensures
@@ -73,7 +73,7 @@ returns-2 c =
     let j = v.before.before.before.before in
     fields_read_lem (one-ends _ j.before.before.before.before.requires) j.before.before.whole.ensures j.before.after.ensures j.judge.ensures
     v.before.before.before.after2.ensures v.before.before.judge2.ensures v.before.after3.ensures v.whole2.ensures
-    i.is_name.result true _ i.is_name.ensures (millionths-back _ _ _ c.signed-size.ensures) (not_false _ c.before.if1.false)
+    i.is_name.result true _ i.is_name.ensures (millionths-back _ _ _ c.signed-size.ensures) (not-false _ c.before.if1.false)
 
 pub fields-of-spec : {M : Type 1} → statement M
 fields-of-spec =

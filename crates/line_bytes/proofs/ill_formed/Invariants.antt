@@ -1,0 +1,14 @@
+use Prim.Native.Nat.{◌-◌}
+use mathlib.Core.Path.{◌≡◌, ◌∙◌, sym, refl}
+use native.Mathlib.Omega.{arith}
+use lib.ListN.{length, drop}
+use borrow.Author.Rules.{rules}
+use Rattle.line_bytes.specs.Lines.{ill_from, ill_formed}
+use Rattle.line_bytes.proofs.LineLaws.{character_at, character-room, ill-end, ill-stop, ill-step}
+use Rattle.line_bytes.proofs.ill_formed.Given as goal
+
+abbrev pub invariant-loop-i : goal.invariant-loop-i
+invariant-loop-i l = ill_formed l.line ≡ ill_from l.i 0 (drop l.i l.line)
+
+abbrev pub decreases-loop-i : goal.decreases-loop-i
+decreases-loop-i l = length l.line - l.i

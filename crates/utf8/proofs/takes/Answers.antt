@@ -1,0 +1,31 @@
+use Prim.Native.Nat.{◌-◌, ◌≤◌}
+use mathlib.Core.Path.{◌≡◌, ◌∙◌, sym}
+use borrow.Author.Tests.{not-true, not-false}
+use native.Mathlib.Omega.{arith}
+use lib.ListN.{length}
+use borrow.Author.Rules.{rules}
+use Rattle.utf8.specs.Syntax.{takes}
+use Rattle.utf8.specs.Rows.{row_in}
+use Rattle.utf8.proofs.RowLaws.{row-length, takes_first, takes-short, takes_from, takes_out, takes-on, takes_all}
+use Rattle.utf8.proofs.takes.Goals as goal
+
+pub returns-then-text-n : goal.returns-then-text-n
+returns-then-text-n c =
+    sym (takes-short (row_in c.args.row.now) _ (rw c.length_of-n.ensures at c.if-text-n.true))
+
+pub loop-j-init : goal.loop-j-init
+loop-j-init c =
+    (omega (arith, c.length_of-n.ensures, row-length c.args.row.now), c.if-text-n.false, takes_first _ _ _ c.length_of-n.ensures)
+
+pub returns-then-not-within : goal.returns-then-not-within
+returns-then-not-within c =
+    let v = c.loop-j.invariant in
+    sym (v.2 ∙ takes_out _ _ _ _ c.loop-j-test.true (omega (arith, c.loop-j-test.true, v.1)) (sym c.within.ensures ∙ not-true _ c.if-not-within.true-raw))
+
+pub loop-j-preserved : goal.loop-j-preserved
+loop-j-preserved c =
+    let v = c.loop-j.invariant in
+    (v.0, v.1, v.2 ∙ takes-on _ _ _ _ c.loop-j-test.true (omega (arith, c.loop-j-test.true, v.1)) (sym c.within.ensures ∙ not-false _ c.if-not-within.false-raw))
+
+pub returns : goal.returns
+returns c = let v = c.loop-j.invariant in sym (v.2 ∙ takes_all _ _ _ _ c.loop-j-test.false)

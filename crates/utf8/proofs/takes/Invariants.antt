@@ -1,0 +1,16 @@
+use Prim.Native.Nat.{◌-◌, ◌≤◌}
+use mathlib.Core.Path.{◌≡◌, ◌∙◌, sym}
+use borrow.Author.Tests.{not-true, not-false}
+use native.Mathlib.Omega.{arith}
+use lib.ListN.{length}
+use borrow.Author.Rules.{rules}
+use Rattle.utf8.specs.Syntax.{takes}
+use Rattle.utf8.specs.Rows.{row_in}
+use Rattle.utf8.proofs.RowLaws.{row-length, takes_first, takes-short, takes_from, takes_out, takes-on, takes_all}
+use Rattle.utf8.proofs.takes.Given as goal
+
+abbrev pub invariant-loop-j : goal.invariant-loop-j
+invariant-loop-j l = (l.n ≤ 4) × (l.n ≤ length l.text) × (takes (row_in l.row) l.text ≡ takes_from l.row l.n l.text l.j)
+
+abbrev pub decreases-loop-j : goal.decreases-loop-j
+decreases-loop-j l = l.n - l.j
