@@ -5,7 +5,7 @@ ghost use Rattle.line_bytes.specs.Inner.Scans.{Stop};
 ghost use Rattle.cells.specs.Inner.Runs.{Spaced, Counted, Worded};
 
 // The digits passed end at `at` and write v.
-#[derive(Drop)]
+#[derive(Clone, Copy)]
 pub struct DigitRun {
     pub at: usize,
     pub v: u64,

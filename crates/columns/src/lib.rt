@@ -24,7 +24,7 @@ use text::{kinds, refusals};
 const MOST_NAMES: usize = 256;
 
 // The columns: how many, and the kind of each. Or the first broken rule.
-#[derive(Drop)]
+#[derive(Clone, Copy)]
 pub struct Columns {
     pub number: u64,
     pub column: u64,
@@ -72,7 +72,7 @@ pub fn flag_column(s: &[u8], at: usize, column: u64) -> u64
 }
 
 // The cells of the names line, 256 at the most; where there is one more, it starts at `over`.
-#[derive(Drop)]
+#[derive(Clone, Copy)]
 pub struct Cells {
     pub count: usize,
     pub starts: [usize; 256],

@@ -10,7 +10,7 @@ use orders::Order;
 use text::{last_place, limits, refusals};
 
 // A correction's answer: number, line and column, 0 each where it is applied; the places of the cells to write are then the others.
-#[derive(Drop)]
+#[derive(Clone, Copy)]
 pub struct Decision {
     pub number: u64,
     pub line: u64,

@@ -8,7 +8,7 @@ use orders::Order;
 use text::Span;
 
 // Where a measurement's cells stand, with their spaces: its value's, and its flag's if there is one.
-#[derive(Drop)]
+#[derive(Clone, Copy)]
 pub struct CellPlaces {
     pub value: Span,
     pub flagged: bool,

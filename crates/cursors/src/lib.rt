@@ -6,7 +6,7 @@ use format::CellPlace;
 
 // On the cell of `row` and `column`, which ends with its spaces at `stop`, in a file of so many rows and columns; at the end row and column are 0. The file's
 // refusal stands beside the cell's place.
-#[derive(Drop)]
+#[derive(Clone, Copy)]
 pub struct Cursor {
     pub cell: CellPlace,
     pub stop: usize,
@@ -16,7 +16,7 @@ pub struct Cursor {
     pub columns: u64,
 }
 
-#[derive(Drop)]
+#[derive(Clone, Copy)]
 pub struct Walker<'a> {
     pub file: &'a [u8],
     pub cursor: Cursor,

@@ -13,7 +13,7 @@ use rules::open_file;
 use text::{Span, refusals};
 
 // The cell stands at start, with its spaces; its line goes from `at` to its line feed at `feed`; the names line starts at `names`.
-#[derive(Drop)]
+#[derive(Clone, Copy)]
 pub struct Cell {
     pub number: u64,
     pub line: u64,

@@ -5,7 +5,7 @@
 use text::{Reading, Span};
 
 // The kind of a file.
-#[derive(Drop)]
+#[derive(Clone, Copy)]
 pub enum FileKind {
     Unknown,
     Bottle,
@@ -13,7 +13,7 @@ pub enum FileKind {
 }
 
 // The check's answer: accepted with its counts where the number is 0, else refused at line and column.
-#[derive(Drop)]
+#[derive(Clone, Copy)]
 pub struct Checked {
     pub number: u64,
     pub line: u64,
@@ -27,7 +27,7 @@ pub struct Checked {
 
 // A file opened: the check's answer, and where its headers, its names line and its first data line start; 0 each where the file is refused. The headers start
 // where the names line does if there are none.
-#[derive(Drop)]
+#[derive(Clone, Copy)]
 pub struct Opened {
     pub checked: Checked,
     pub headers: usize,
@@ -36,7 +36,7 @@ pub struct Opened {
 }
 
 // The number of a column, from 1; or the refusal.
-#[derive(Drop)]
+#[derive(Clone, Copy)]
 pub struct Named {
     pub number: u64,
     pub line: u64,
@@ -45,7 +45,7 @@ pub struct Named {
 }
 
 // A flag, or the refusal.
-#[derive(Drop)]
+#[derive(Clone, Copy)]
 pub struct Flagged {
     pub number: u64,
     pub line: u64,
@@ -54,14 +54,14 @@ pub struct Flagged {
 }
 
 // When a cast was made.
-#[derive(Drop)]
+#[derive(Clone, Copy)]
 pub enum CastTime {
     Given { hour: u64, minute: u64 },
     Missing,
 }
 
 // A profile's record where the number is 0, else the refusal.
-#[derive(Drop)]
+#[derive(Clone, Copy)]
 pub struct ProfileRecord {
     pub number: u64,
     pub line: u64,
@@ -74,7 +74,7 @@ pub struct ProfileRecord {
 }
 
 // Where a trimmed text stands in the file; or the refusal, with the empty place at the file's start.
-#[derive(Drop)]
+#[derive(Clone, Copy)]
 pub struct CellPlace {
     pub number: u64,
     pub line: u64,
@@ -83,7 +83,7 @@ pub struct CellPlace {
 }
 
 // Where the name and the value of a header stand, both trimmed; or the refusal, with empty places at the file's start.
-#[derive(Drop)]
+#[derive(Clone, Copy)]
 pub struct HeaderPlace {
     pub number: u64,
     pub line: u64,
@@ -93,21 +93,21 @@ pub struct HeaderPlace {
 }
 
 // The reading of a line's cell, and where the next line starts.
-#[derive(Drop)]
+#[derive(Clone, Copy)]
 pub struct DecimalStep {
     pub reading: Reading,
     pub next: usize,
 }
 
 // The flag of a line's cell, and where the next line starts.
-#[derive(Drop)]
+#[derive(Clone, Copy)]
 pub struct FlagStep {
     pub flagged: Flagged,
     pub next: usize,
 }
 
 // Where the cells of a measurement stand, with their spaces, and what column they are of; or the refusal.
-#[derive(Drop)]
+#[derive(Clone, Copy)]
 pub struct Located {
     pub number: u64,
     pub line: u64,
@@ -120,7 +120,7 @@ pub struct Located {
 }
 
 // A line: its line feed at `end`; or the first of rules 1 to 5 that it breaks and the column shown, the number being 0 where it breaks none.
-#[derive(Drop)]
+#[derive(Clone, Copy)]
 pub struct Line {
     pub end: usize,
     pub number: u64,
@@ -128,7 +128,7 @@ pub struct Line {
 }
 
 // The first fault of a list of names.
-#[derive(Drop)]
+#[derive(Clone, Copy)]
 pub enum NameFault {
     Clean,
     Bad(usize),

@@ -57,7 +57,7 @@ fn feed_in(s: &[u8], i: usize, width: usize) -> bool
 }
 
 // A place on the way to a line or a cell: it is at `at`, with `left` lines or cells to go.
-#[derive(Drop)]
+#[derive(Clone, Copy)]
 pub struct Skip {
     pub at: usize,
     pub left: usize,

@@ -20,7 +20,7 @@ pub const MOST_HEADERS: usize = 64;
 pub const MOST_NAME_BYTES: usize = 64;
 
 // One header line: its line feed, its first =; or the first broken rule.
-#[derive(Drop)]
+#[derive(Clone, Copy)]
 pub struct Header {
     pub end: usize,
     pub equals: usize,
@@ -29,7 +29,7 @@ pub struct Header {
 }
 
 // The first header line: its line feed, its first = and how many headers it says; or the first broken rule.
-#[derive(Drop)]
+#[derive(Clone, Copy)]
 pub struct FirstHeader {
     pub end: usize,
     pub equals: usize,

@@ -15,14 +15,14 @@ pub mod refusals;
 mod spaces;
 
 // Where a search of a line ends.
-#[derive(Drop)]
+#[derive(Clone, Copy)]
 pub enum Found {
     At(usize),
     Nowhere,
 }
 
 // A part of the lent bytes, by place.
-#[derive(Drop)]
+#[derive(Clone, Copy)]
 pub struct Span {
     pub start: usize,
     pub len: usize,

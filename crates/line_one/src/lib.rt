@@ -19,7 +19,7 @@ pub const BOTTLE: u8 = 1;
 pub const CTD: u8 = 2;
 
 // Line 1 read: the next line starts at `at`; or the first broken rule.
-#[derive(Drop)]
+#[derive(Clone, Copy)]
 pub struct First {
     pub at: usize,
     pub number: u64,

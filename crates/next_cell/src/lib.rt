@@ -22,7 +22,7 @@ const TWO_SPACES: u32 = 0x2020;
 const FOUR_SPACES: u32 = 0x20202020;
 
 // A cell: where it stands without its spaces, and where it ends with them.
-#[derive(Drop)]
+#[derive(Clone, Copy)]
 pub struct CellAfter {
     pub place: Span,
     pub stop: usize,

@@ -113,7 +113,7 @@ fn no_flag(number: u64) -> Flagged
 
 // A cell of a line: it stands at start, with its spaces, and the line's line feed at `feed`; not found where the line has no line feed or no such cell. The next
 // line starts at `next`.
-#[derive(Drop)]
+#[derive(Clone, Copy)]
 pub struct Part {
     pub found: bool,
     pub start: usize,

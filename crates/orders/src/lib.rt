@@ -7,7 +7,7 @@ use text::Span;
 
 // A correction: the measurement at a row and column, counted from 1, set to so many millionths, written with so many decimals, and to a flag, which is 0
 // where the column has no flag column.
-#[derive(Drop)]
+#[derive(Clone, Copy)]
 pub struct Order {
     pub row: u64,
     pub column: u64,
@@ -17,14 +17,14 @@ pub struct Order {
 }
 
 // A correction's answer.
-#[derive(Drop)]
+#[derive(Clone, Copy)]
 pub enum Answer {
     Applied,
     Refused { number: u64, line: u64, column: u64 },
 }
 
 // One line of a correction list, its column name by place; the number is 26 where it is malformed, else 0.
-#[derive(Drop)]
+#[derive(Clone, Copy)]
 pub struct ListLine {
     pub number: u64,
     pub row: u64,

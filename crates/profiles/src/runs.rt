@@ -13,7 +13,7 @@ use rules::open_file;
 use text::refusals;
 
 // The rows of a profile: the first row, and how many there are; none where there is no such profile.
-#[derive(Drop)]
+#[derive(Clone, Copy)]
 pub struct Run {
     pub first: u64,
     pub rows: u64,
@@ -96,7 +96,7 @@ fn run_in(s: &[u8], o: Opened, k: u64) -> Run
 }
 
 // A profile: its rows, where its first row's line starts, whether its file is a bottle file, and where that file's names line and headers stand; or the refusal.
-#[derive(Drop)]
+#[derive(Clone, Copy)]
 pub struct ProfileAt {
     pub number: u64,
     pub line: u64,

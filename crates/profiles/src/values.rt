@@ -9,7 +9,7 @@ use headers::equals_from;
 use text::kinds;
 
 // Where a value stands, with its spaces: a cell parted by the separator, in a line whose line feed stands at `feed`. Not found: there is none of that name.
-#[derive(Drop)]
+#[derive(Clone, Copy)]
 pub struct ValueAt {
     pub found: bool,
     pub separator: u8,

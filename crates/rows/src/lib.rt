@@ -13,7 +13,7 @@ use grid::cell_count;
 use text::{Keys, Span, refusals};
 
 // A data line read: its number is 0 where it is good, else the refused cell starts at `at`. Its missing readings, and where its key cells stand.
-#[derive(Drop)]
+#[derive(Clone, Copy)]
 pub struct Row {
     pub at: usize,
     pub number: u64,

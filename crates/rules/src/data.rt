@@ -11,7 +11,7 @@ use text::{Keys, refusals};
 pub const MOST_ROWS: u64 = 1000000;
 
 // The data lines read so far: the next line starts at `at`. done: END_DATA was read, or a rule is broken.
-#[derive(Drop)]
+#[derive(Clone, Copy)]
 pub struct Data {
     pub at: usize,
     pub number: u64,

@@ -5,7 +5,7 @@ ghost use Rattle.rules.specs.Inner.Free.{FreeRead};
 use lines::line_at;
 
 // A place of the file: the next line starts at `at` and has that number; or the first broken rule.
-#[derive(Drop)]
+#[derive(Clone, Copy)]
 pub struct Walk {
     pub at: usize,
     pub line: u64,

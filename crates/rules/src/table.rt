@@ -14,7 +14,7 @@ use text::refusals;
 
 // What the check finds out about a file: the first broken rule, or its table. The data lines start at `data`, the names line at `names`, the headers at
 // `headers`, which is `names` where there are none.
-#[derive(Drop)]
+#[derive(Clone, Copy)]
 pub struct FileTable {
     pub number: u64,
     pub line: u64,

@@ -18,7 +18,7 @@ mod catalogue;
 mod readings;
 
 // The reading of a decimal.
-#[derive(Drop)]
+#[derive(Clone, Copy)]
 pub enum Reading {
     Present { millionths: i64, value: f64 },
     Missing,

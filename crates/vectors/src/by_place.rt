@@ -44,7 +44,7 @@ fn put_row(page: &mut [u8], p: CellPlace, r: Reading, f: Flagged) -> usize {
 }
 
 // A row put at the start of the page: the length of its answers, and where the next row starts.
-#[derive(Drop)]
+#[derive(Clone, Copy)]
 pub struct RowPut {
     pub len: usize,
     pub next: usize,

@@ -2,7 +2,7 @@
 use libc::STDIN_FILENO;
 
 // The next byte of the input, or that it has ended.
-#[derive(Drop)]
+#[derive(Clone, Copy)]
 enum Next {
     Byte(u8),
     End,

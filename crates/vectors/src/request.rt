@@ -2,7 +2,7 @@
 ghost use Rattle.io.specs.Counts.{IsPrefixLen};
 
 // What is asked of a file or a list line.
-#[derive(Drop)]
+#[derive(Clone, Copy)]
 pub enum Call {
     Check,
     Cell,
@@ -16,7 +16,7 @@ pub enum Call {
 }
 
 // What is asked of a file's names and columns, and a walk over its cells.
-#[derive(Drop)]
+#[derive(Clone, Copy)]
 pub enum ColumnCall {
     Open,
     Name,
@@ -31,7 +31,7 @@ pub enum ColumnCall {
 }
 
 // The lengths of a request's blocks; only those that are asked by a name have the second.
-#[derive(Drop)]
+#[derive(Clone, Copy)]
 pub struct Lengths {
     pub file: u64,
     pub named: bool,

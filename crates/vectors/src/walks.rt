@@ -5,7 +5,7 @@ use pages::{put, put_number};
 use walk::Cursor;
 
 // The cells that were handed out, the remainder after their lines, and the cursor then.
-#[derive(Drop)]
+#[derive(Clone, Copy)]
 pub struct Walked {
     pub cells: usize,
     pub crc: u32,

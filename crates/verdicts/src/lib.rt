@@ -13,7 +13,7 @@ pub mod notes;
 pub mod ranges;
 
 // A judged cell, which ends at `at`. The number is 0 where it is good, and then `size` has what it writes: a decimal's millionths, else a whole number.
-#[derive(Drop)]
+#[derive(Clone, Copy)]
 pub struct Judged {
     pub at: usize,
     pub number: u64,
@@ -23,7 +23,7 @@ pub struct Judged {
 }
 
 // Where the key cells of a line stand, with their spaces, and the number of its CASTNO.
-#[derive(Drop)]
+#[derive(Clone, Copy)]
 pub struct Keys {
     pub expocode: Span,
     pub stnnbr: Span,
@@ -31,7 +31,7 @@ pub struct Keys {
 }
 
 // Cells judged from the left: how many are good, and how many of those read as missing; the last one judged starts at `start` and ends at `at`.
-#[derive(Drop)]
+#[derive(Clone, Copy)]
 pub struct CellsRead {
     pub start: usize,
     pub at: usize,

@@ -9,7 +9,7 @@ use crate::{MISSING, PRESENT, REFUSED};
 use text::Reading;
 
 // A row's entries in the three tables.
-#[derive(Drop)]
+#[derive(Clone, Copy)]
 pub struct Entry {
     pub case: u8,
     pub millionths: i64,

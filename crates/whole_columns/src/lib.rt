@@ -22,7 +22,7 @@ pub const MISSING: u8 = 1;
 pub const REFUSED: u8 = 2;
 
 // How many rows are given, where the number is 0; else the refusal.
-#[derive(Drop)]
+#[derive(Clone, Copy)]
 pub struct ColumnRead {
     pub number: u64,
     pub line: u64,

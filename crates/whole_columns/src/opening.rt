@@ -7,7 +7,7 @@ use crate::ColumnRead;
 use text::refusals;
 
 // The call's answer; where it is no refusal, the column's kind and where the first row starts.
-#[derive(Drop)]
+#[derive(Clone, Copy)]
 pub struct Column {
     pub answer: ColumnRead,
     pub kind: u8,

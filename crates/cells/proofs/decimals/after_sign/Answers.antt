@@ -1,0 +1,9 @@
+use native.Mathlib.Omega.{arith}
+use borrow.Author.Rules.{rules}
+use Rattle.cells.proofs.decimals.after_sign.Goals as goal
+
+pub returns-then-b : goal.returns-then-b
+returns-then-b c = (rw c.if-b.true, omega arith)
+
+pub returns-else-b : goal.returns-else-b
+returns-else-b c = (rw c.if-b.false, omega arith)
