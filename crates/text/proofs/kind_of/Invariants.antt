@@ -1,0 +1,13 @@
+use Prim.Native.Nat.{◌≤◌, ◌-◌, ◌/◌}
+use mathlib.Core.Path.{◌≡◌, sym, ◌∙◌}
+use lib.ListN.{length}
+use borrow.Author.Rules.{rules}
+use Rattle.text.specs.Catalogue.{search_from, look_up}
+use Rattle.text.proofs.EntryLaws.{search-start, search-end, search-stop, search-step, kind-nowhere, kind_at_lem, kind_past}
+use Rattle.text.proofs.kind_of.Given as goal
+
+abbrev pub invariant-loop-k : goal.invariant-loop-k
+invariant-loop-k l = (l.k ≤ length l.listed / 16) × (look_up l.listed l.name ≡ search_from l.listed l.name (length l.listed / 16 - l.k) l.k)
+
+abbrev pub decreases-loop-k : goal.decreases-loop-k
+decreases-loop-k l = l.n - l.k
