@@ -1,0 +1,17 @@
+-- The loop's invariant: the cells counted and those of the rest of the line are those of the line.
+use Prim.Native.Nat.{◌+◌, ◌-◌, ◌≤◌, ◌<◌}
+use mathlib.Core.Path.{◌≡◌}
+use mathlib.Core.Logic.{⊎_elim}
+use native.Mathlib.Omega.{arith}
+use lib.ListN.{length}
+use borrow.Author.Rules.{rules}
+use Rattle.line_bytes.specs.Cells.{pieces, line_at}
+use Rattle.line_bytes.proofs.CellLaws.{count-end}
+use Rattle.format.proofs.GridWalkLaws.{count-comma, count-other, count_past}
+use Rattle.grid.proofs.cell_count.Given as goal
+
+abbrev pub invariant-loop-q : goal.invariant-loop-q
+invariant-loop-q l = (l.i ≤ l.q) × (l.n ≤ l.q - l.i + 1) × (l.n + length (pieces 44 (line_at l.s l.q)) ≡ length (pieces 44 (line_at l.s l.i)) + 1)
+
+abbrev pub decreases-loop-q : goal.decreases-loop-q
+decreases-loop-q l = length l.s - l.q

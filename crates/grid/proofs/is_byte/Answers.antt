@@ -1,0 +1,9 @@
+use native.Mathlib.Omega.{arith}
+use borrow.Author.Tests.{eq-eqb, ne_eqb}
+use Rattle.grid.proofs.is_byte.Goals as goal
+
+pub returns-then-b-wanted : goal.returns-then-b-wanted
+returns-then-b-wanted c = (rw (eq-eqb _ _ c.if-b-wanted.true), omega arith)
+
+pub returns-else-b-wanted : goal.returns-else-b-wanted
+returns-else-b-wanted c = (rw (ne_eqb _ _ c.if-b-wanted.false), omega arith)
