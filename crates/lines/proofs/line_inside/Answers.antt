@@ -1,0 +1,9 @@
+use native.Mathlib.Omega.{arith}
+use Rattle.lines.proofs.LinePassLaws.{line_plain}
+use borrow.Author.Rules.{rules}
+use Rattle.lines.proofs.line_inside.Goals as goal
+
+pub returns-then-s-o-eq10 : goal.returns-then-s-o-eq10
+returns-then-s-o-eq10 c =
+    let w = c.limit_of-limit.ensures in
+    line_plain _ _ _ _ c.first_odd-o.ensures.over (omega arith) (omega arith) c.if-s-o-eq10.true

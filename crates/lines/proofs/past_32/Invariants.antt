@@ -1,0 +1,13 @@
+use Prim.Native.Nat.{◌-◌, ◌≤◌}
+use native.Mathlib.Omega.{arith}
+use borrow.Author.Rules.{rules}
+use Rattle.line_bytes.specs.Inner.Scans.{Scan}
+use Rattle.line_bytes.specs.Inner.Lines.{is_plain}
+use Rattle.lines.proofs.LinePassLaws.{scan-join}
+use Rattle.lines.proofs.past_32.Given as goal
+
+abbrev pub invariant-loop-i : goal.invariant-loop-i
+invariant-loop-i l = (l.at ≤ l.i) × (l.i ≤ l.limit) × Scan is_plain l.s l.at l.i
+
+abbrev pub decreases-loop-i : goal.decreases-loop-i
+decreases-loop-i l = l.limit - l.i
