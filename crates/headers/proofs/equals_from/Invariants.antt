@@ -1,0 +1,16 @@
+-- The = of the whole line is that of what is left of it.
+use Prim.Native.Nat.{◌-◌}
+use mathlib.Core.Path.{◌≡◌, refl, sym, ◌∙◌}
+use native.Mathlib.Omega.{arith}
+use lib.ListN.{length}
+use borrow.Author.Rules.{rules}
+use Rattle.line_bytes.specs.Cells.{cell_end}
+use Rattle.line_bytes.proofs.CellLaws.{cell_end_in, cell_end-end}
+use Rattle.headers.proofs.HeaderLaws.{equals-end, equals_past}
+use Rattle.headers.proofs.equals_from.Given as goal
+
+abbrev pub invariant-loop-i : goal.invariant-loop-i
+invariant-loop-i l = cell_end 61 l.s l.at ≡ cell_end 61 l.s l.i
+
+abbrev pub decreases-loop-i : goal.decreases-loop-i
+decreases-loop-i l = length l.s - l.i
