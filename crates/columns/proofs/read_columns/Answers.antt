@@ -11,8 +11,8 @@ use Rattle.columns.proofs.read_columns.Goals as goal
 pub offset_bounds-c-k : goal.offset_bounds-c-k
 offset_bounds-c-k c =
     let a = c.args in
-    let r = c.Cells-of.result in
-    let w = c.Cells-of.ensures in
+    let r = c.cells_of-c.result in
+    let w = c.cells_of-c.ensures in
     let f = c.first_fault in
     let h = bad-within a.s.now a.at r w f.result f.ensures c.in-Bad.k c.in-Bad.is in
     omega (arith, w.placed.few)
@@ -20,8 +20,8 @@ offset_bounds-c-k c =
 pub bounds-c-k : goal.bounds-c-k
 bounds-c-k c =
     let a = c.args in
-    let r = c.Cells-of.result in
-    let w = c.Cells-of.ensures in
+    let r = c.cells_of-c.result in
+    let w = c.cells_of-c.ensures in
     let f = c.first_fault in
     let h = bad-within a.s.now a.at r w f.result f.ensures c.in-Bad.k c.in-Bad.is in
     omega (arith, w.placed.few)
@@ -29,8 +29,8 @@ bounds-c-k c =
 pub overflow_sub-c : goal.overflow_sub-c
 overflow_sub-c c =
     let a = c.args in
-    let r = c.Cells-of.result in
-    let w = c.Cells-of.ensures in
+    let r = c.cells_of-c.result in
+    let w = c.cells_of-c.ensures in
     let f = c.first_fault in
     let h = bad-within a.s.now a.at r w f.result f.ensures c.in-Bad.k c.in-Bad.is in
     start-after a.at _ (pieces 44 (line_at a.s.now a.at)) c.in-Bad.k (w.placed.begin c.in-Bad.k h)
@@ -38,8 +38,8 @@ overflow_sub-c c =
 pub overflow_add-c : goal.overflow_add-c
 overflow_add-c c =
     let a = c.args in
-    let r = c.Cells-of.result in
-    let w = c.Cells-of.ensures in
+    let r = c.cells_of-c.result in
+    let w = c.cells_of-c.ensures in
     let f = c.first_fault in
     let h = bad-within a.s.now a.at r w f.result f.ensures c.in-Bad.k c.in-Bad.is in
     omega (arith, w.placed.inside c.in-Bad.k h)
@@ -47,8 +47,8 @@ overflow_add-c c =
 pub offset_bounds-c-k-in-Repeated : goal.offset_bounds-c-k-in-Repeated
 offset_bounds-c-k-in-Repeated c =
     let a = c.args in
-    let r = c.Cells-of.result in
-    let w = c.Cells-of.ensures in
+    let r = c.cells_of-c.result in
+    let w = c.cells_of-c.ensures in
     let f = c.first_fault in
     let h = repeated-within a.s.now a.at r w f.result f.ensures c.in-Repeated.k c.in-Repeated.is in
     omega (arith, w.placed.few)
@@ -56,8 +56,8 @@ offset_bounds-c-k-in-Repeated c =
 pub bounds-c-k-in-Repeated : goal.bounds-c-k-in-Repeated
 bounds-c-k-in-Repeated c =
     let a = c.args in
-    let r = c.Cells-of.result in
-    let w = c.Cells-of.ensures in
+    let r = c.cells_of-c.result in
+    let w = c.cells_of-c.ensures in
     let f = c.first_fault in
     let h = repeated-within a.s.now a.at r w f.result f.ensures c.in-Repeated.k c.in-Repeated.is in
     omega (arith, w.placed.few)
@@ -65,8 +65,8 @@ bounds-c-k-in-Repeated c =
 pub overflow_sub-c-in-Repeated : goal.overflow_sub-c-in-Repeated
 overflow_sub-c-in-Repeated c =
     let a = c.args in
-    let r = c.Cells-of.result in
-    let w = c.Cells-of.ensures in
+    let r = c.cells_of-c.result in
+    let w = c.cells_of-c.ensures in
     let f = c.first_fault in
     let h = repeated-within a.s.now a.at r w f.result f.ensures c.in-Repeated.k c.in-Repeated.is in
     start-after a.at _ (pieces 44 (line_at a.s.now a.at)) c.in-Repeated.k (w.placed.begin c.in-Repeated.k h)
@@ -74,21 +74,21 @@ overflow_sub-c-in-Repeated c =
 pub overflow_add-c-in-Repeated : goal.overflow_add-c-in-Repeated
 overflow_add-c-in-Repeated c =
     let a = c.args in
-    let r = c.Cells-of.result in
-    let w = c.Cells-of.ensures in
+    let r = c.cells_of-c.result in
+    let w = c.cells_of-c.ensures in
     let f = c.first_fault in
     let h = repeated-within a.s.now a.at r w f.result f.ensures c.in-Repeated.k c.in-Repeated.is in
     omega (arith, w.placed.inside c.in-Repeated.k h)
 
 pub good_columns-requires : goal.good_columns-requires
 good_columns-requires c =
-    (c.Cells-of.ensures, sym c.first_fault.ensures ∙ c.in-Clean.is)
+    (c.cells_of-c.ensures, sym c.first_fault.ensures ∙ c.in-Clean.is)
 
 pub returns-in-Bad : goal.returns-in-Bad
 returns-in-Bad c =
     let a = c.args in
-    let r = c.Cells-of.result in
-    let w = c.Cells-of.ensures in
+    let r = c.cells_of-c.result in
+    let w = c.cells_of-c.ensures in
     let f = c.first_fault in
     let h = bad-within a.s.now a.at r w f.result f.ensures c.in-Bad.k c.in-Bad.is in
     names-refused (sort_for a.bottle) (line_at a.s.now a.at) c.columns_refused.result 10 _ _ c.columns_refused.ensures
@@ -98,8 +98,8 @@ returns-in-Bad c =
 pub returns-in-Repeated : goal.returns-in-Repeated
 returns-in-Repeated c =
     let a = c.args in
-    let r = c.Cells-of.result in
-    let w = c.Cells-of.ensures in
+    let r = c.cells_of-c.result in
+    let w = c.cells_of-c.ensures in
     let f = c.first_fault in
     let h = repeated-within a.s.now a.at r w f.result f.ensures c.in-Repeated.k c.in-Repeated.is in
     names-refused (sort_for a.bottle) (line_at a.s.now a.at) c.columns_refused-in-Repeated.result 9 _ _ c.columns_refused-in-Repeated.ensures
