@@ -12,15 +12,15 @@ pub slice_bounds-same-end : goal.slice_bounds-same-end
 slice_bounds-same-end c =
     sym (length-take-le _ c.args.s.now (word-inside _ _ c.cell_end-q.ensures))
 
+pub slice_bounds-same-end-3 : goal.slice_bounds-same-end-3
+slice_bounds-same-end-3 c =
+    sym (length-take-le _ c.args.s.now (word-inside _ _ c.cell_end-q.ensures))
+
 pub returns-then-same : goal.returns-then-same
 returns-then-same c =
     let s = c.args.s.now in
     let e : is_bottle (line_at s 0) ≡ true = word_is s _ c.cell_end-q.ensures (bytes "BOTTLE") _ c.same.ensures ∙ c.if-same.true in
     rw e
-
-pub slice-aggregate-same-3 : goal.slice-aggregate-same-3
-slice-aggregate-same-3 c =
-    sym (length-take-le _ c.args.s.now (word-inside _ _ c.cell_end-q.ensures))
 
 pub returns-then-same-2 : goal.returns-then-same-2
 returns-then-same-2 c =
