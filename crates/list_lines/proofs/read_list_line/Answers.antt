@@ -1,0 +1,14 @@
+use mathlib.Core.Path.{sym, ◌∙◌}
+use borrow.Author.Tests.{not-true, not-false}
+use Rattle.orders.proofs.ListLineLaws.{line_refused, line-by_fields}
+use borrow.Author.Rules.{rules}
+use Rattle.list_lines.proofs.read_list_line.Goals as goal
+
+pub returns-then-not-is_one_line : goal.returns-then-not-is_one_line
+returns-then-not-is_one_line c = line_refused _ c.malformed.ensures (sym c.is_one_line.ensures ∙ not-true _ c.if-not-is_one_line.true-raw)
+
+pub fields_of-requires : goal.fields_of-requires
+fields_of-requires c = sym c.is_one_line.ensures ∙ not-false _ c.if-not-is_one_line.false-raw
+
+pub returns : goal.returns
+returns c = line-by_fields _ c.fields_of.ensures (sym c.is_one_line.ensures ∙ not-false _ c.if-not-is_one_line.false-raw)
