@@ -1,0 +1,11 @@
+use Prim.Native.Nat.{◌-◌}
+use native.Mathlib.Omega.{arith}
+use borrow.Author.Rules.{rules}
+use Rattle.whole_columns.proofs.FillingLaws.{Flagging, flag-start, flags_long, flag-digit, flag_turn, flag-end}
+use Rattle.whole_columns.proofs.filling.fill_flags.Given as goal
+
+abbrev pub invariant-loop-j : goal.invariant-loop-j
+invariant-loop-j l = Flagging l.file l.n l.column l.initial.flags l.flags l.at l.j
+
+abbrev pub decreases-loop-j : goal.decreases-loop-j
+decreases-loop-j l = l.n - l.j
