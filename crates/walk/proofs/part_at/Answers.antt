@@ -1,0 +1,28 @@
+use mathlib.Core.Path.{refl, ap}
+use Prim.Native.Nat.{ℕ}
+use native.Mathlib.Nat.{add_comm, add-sub_cancel_left}
+use native.Mathlib.Omega.{arith}
+use lib.ListN.{take, drop}
+use Rattle.cursors.proofs.StepLaws.{part_past, part-long, part-fits}
+use borrow.Author.Rules.{rules}
+use Rattle.walk.proofs.part_at.Goals as goal
+
+pub returns-then-file-start : goal.returns-then-file-start
+returns-then-file-start c = let a = c.args in let q = part_past a.file.now a.cursor c.if-file-start.true in rw q (record { block = refl; offset = add_comm _ _; content = refl })
+
+pub returns-then-file-start-2 : goal.returns-then-file-start-2
+returns-then-file-start-2 c =
+    let a = c.args in
+    let q = part-long a.file.now a.cursor c.if-file-start.false c.if-file-start-2.true in
+    rw q (record { block = refl; offset = add_comm _ _; content = refl })
+
+pub returns : goal.returns
+returns c =
+    let a = c.args in
+    let q = part-fits a.file.now a.cursor (omega (arith, c.if-file-start.false, c.if-file-start-2.false)) in
+    rw q
+    (record {
+      block = refl;
+      offset = add_comm _ _;
+      content = ap (λ (k : ℕ). take k (drop a.cursor.cell.place.start a.file.now)) (add-sub_cancel_left a.cursor.cell.place.start a.cursor.cell.place.len);
+    })
