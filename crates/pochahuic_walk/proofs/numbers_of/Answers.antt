@@ -1,0 +1,5 @@
+use mathlib.Core.Path.{refl}
+use Rattle.pochahuic_walk.proofs.numbers_of.Goals as goal
+
+pub returns : goal.returns
+returns c = refl
