@@ -1,0 +1,14 @@
+-- src/lib.rt:13:9
+-- src/lib.rt:14:16
+-- src/lib.rt:14:9
+-- src/lib.rt:14:9
+-- src/lib.rt:9:1
+use borrow.Author.Rules.{rules}
+use Rattle.pages.proofs.PageLaws.{byte_put, byte_left}
+use Rattle.pages.proofs.put_byte.Goals as goal
+
+pub returns-then-at-room : goal.returns-then-at-room
+returns-then-at-room c = byte_put _ _ _ c.if-at-room.true
+
+pub returns : goal.returns
+returns c = byte_left _ _ _ c.if-at-room.false
