@@ -2,13 +2,14 @@
 
 #![tactic(auto)]
 
-use libc::{STDIN_FILENO, STDOUT_FILENO};
 use report_text::{INPUT_BYTES, PAGE_BYTES};
+use std::io;
+use std::io::Write;
 
-fn main() {
+fn main(rt: HostRuntime) -> io::Result<()> {
     let mut input = [0u8; INPUT_BYTES];
     let mut page = [0u8; PAGE_BYTES];
-    let n = io::read_full(STDIN_FILENO, &mut input);
+    let n = report_text::read_input(&mut rt.reader(), &mut input)?;
     let length = report_text::report_page(&input, n, &mut page);
-    io::write_all(STDOUT_FILENO, &page[..length]);
+    io::writer(&rt).write_all(&page[..length])
 }

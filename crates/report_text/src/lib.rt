@@ -11,7 +11,10 @@ ghost use Rattle.report_text.specs.Promises.{ReadSays};
 use crate::lines::{put_accepted, put_profiles, put_refused};
 use pages::put;
 
+mod input;
 mod lines;
+
+pub use input::read_input;
 
 // The most bytes of a file that is reported on.
 const MOST_BYTES: usize = 65536;

@@ -8,7 +8,8 @@ use crate::answers::answer;
 use crate::input::{read_bytes, read_head, skip};
 use crate::named::answer_with_name;
 use crate::request::{Lengths, lengths_in};
-use libc::STDOUT_FILENO;
+use std::io;
+use std::io::{Read, Write};
 
 mod answers;
 mod by_place;
@@ -27,65 +28,69 @@ const MOST_REQUESTS: u64 = 1099511627776;
 const MOST_ANSWER: usize = 512;
 
 // Writes out what the output holds.
-fn flush(out: &[u8], at: usize) {
+fn flush<W: Write>(output: &mut W, out: &[u8], at: usize) -> io::Result<()> {
     if at <= out.len() {
-        io::write_all(STDOUT_FILENO, &out[..at]);
+        output.write_all(&out[..at])?;
     }
+    Ok(())
 }
 
 // Makes room for an answer where there is none: the output is written out, and begins anew.
-fn make_room(out: &[u8], at: usize) -> usize {
+fn make_room<W: Write>(output: &mut W, out: &[u8], at: usize) -> io::Result<usize> {
     if at < out.len() {
         if MOST_ANSWER <= out.len() - at {
-            return at;
+            return Ok(at);
         }
     }
-    flush(out, at);
-    0
+    flush(output, out, at)?;
+    Ok(0)
 }
 
 // Takes the bytes of a block and the line feed after them, as the first of `file` where it has room; not all: the input ended before.
-fn take_bytes(
+fn take_bytes<R: Read>(
+    input: &mut R,
     buffer: &mut [u8; 65536],
     place: &mut [usize; 2],
     length: u64,
     file: &mut [u8],
-) -> bool {
+) -> io::Result<bool> {
     if (file.len() as u64) < length {
-        return skip(buffer, place, length);
+        return skip(input, buffer, place, length);
     }
     let n = length as usize;
-    read_bytes(buffer, place, &mut file[..n])
+    read_bytes(input, buffer, place, &mut file[..n])
 }
 
 // Takes a second block, behind the first one.
-fn take_name(
+fn take_name<R: Read>(
+    input: &mut R,
     buffer: &mut [u8; 65536],
     place: &mut [usize; 2],
     lengths: Lengths,
     file: &mut [u8],
-) -> bool {
+) -> io::Result<bool> {
     if (file.len() as u64) < lengths.file {
-        return skip(buffer, place, lengths.name);
+        return skip(input, buffer, place, lengths.name);
     }
     let n = lengths.file as usize;
-    take_bytes(buffer, place, lengths.name, &mut file[n..])
+    take_bytes(input, buffer, place, lengths.name, &mut file[n..])
 }
 
 // Takes the blocks of a request.
-fn take_blocks(
+fn take_blocks<R: Read>(
+    input: &mut R,
     buffer: &mut [u8; 65536],
     place: &mut [usize; 2],
     lengths: Lengths,
     file: &mut [u8],
-) -> bool {
-    if !take_bytes(buffer, place, lengths.file, file) {
-        return false;
+) -> io::Result<bool> {
+    if !take_bytes(input, buffer, place, lengths.file, file)? {
+        return Ok(false);
     }
     if lengths.named {
-        return take_name(buffer, place, lengths, file);
+        return take_name(input, buffer, place, lengths, file);
     }
-    true
+    Ok(true)
 }
 
 // Puts the answer to a request with a name, both blocks of which were taken.
@@ -129,7 +134,9 @@ fn put_line(
 }
 
 // Reads one request and puts its answer at `at` of the output; not: the input has ended.
-fn serve(
+fn serve<R: Read, W: Write>(
+    input: &mut R,
+    output: &mut W,
     buffer: &mut [u8; 65536],
     place: &mut [usize; 2],
     file: &mut [u8],
@@ -137,22 +144,24 @@ fn serve(
     table: &[u32; 256],
     out: &mut [u8],
     at: &mut usize,
-) -> bool {
+) -> io::Result<bool> {
     let mut head = [0u8; 256];
-    if read_head(buffer, place, &mut head) == 0 {
-        return false;
+    if read_head(input, buffer, place, &mut head)? == 0 {
+        return Ok(false);
     }
     let lengths = lengths_in(&head);
-    if !take_blocks(buffer, place, lengths, file) {
-        return false;
+    if !take_blocks(input, buffer, place, lengths, file)? {
+        return Ok(false);
     }
-    let from = make_room(out, *at);
+    let from = make_room(output, out, *at)?;
     *at = put_line(&head, lengths, file, page, table, out, from);
-    true
+    Ok(true)
 }
 
 // The same over the program's arrays.
-fn one_request(
+fn one_request<R: Read, W: Write>(
+    input: &mut R,
+    output: &mut W,
     buffer: &mut [u8; 65536],
     place: &mut [usize; 2],
     file: &mut [u8; 131072],
@@ -160,16 +169,18 @@ fn one_request(
     table: &[u32; 256],
     out: &mut [u8; 65536],
     at: &mut usize,
-) -> bool {
-    serve(buffer, place, file, page, table, out, at)
+) -> io::Result<bool> {
+    serve(input, output, buffer, place, file, page, table, out, at)
 }
 
 // Writes out the rest.
-fn finish(out: &[u8; 65536], at: usize) {
-    flush(out, at);
+fn finish<W: Write>(output: &mut W, out: &[u8; 65536], at: usize) -> io::Result<()> {
+    flush(output, out, at)
 }
 
-fn main() {
+fn main(rt: HostRuntime) -> io::Result<()> {
+    let mut input = rt.reader();
+    let mut output = io::writer(&rt);
     let mut buffer = [0u8; 65536];
     let mut place = [0usize; 2];
     let mut file = [0u8; 131072];
@@ -180,6 +191,8 @@ fn main() {
     let mut turns = MOST_REQUESTS;
     while 0 < turns {
         if !one_request(
+            &mut input,
+            &mut output,
             &mut buffer,
             &mut place,
             &mut file,
@@ -187,10 +200,10 @@ fn main() {
             &table,
             &mut out,
             &mut at,
-        ) {
+        )? {
             break;
         }
         turns -= 1;
     }
-    finish(&out, at);
+    finish(&mut output, &out, at)
 }
