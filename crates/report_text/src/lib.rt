@@ -8,11 +8,11 @@ ghost use Rattle.pages.specs.Pages.{page, lay};
 ghost use Rattle.report_text.specs.Report.{report_of};
 ghost use Rattle.report_text.specs.Promises.{ReadSays};
 
-use crate::lines::{put_accepted, put_profiles, put_refused};
+use crate::report_lines::{put_accepted, put_profiles, put_refused};
 use pages::put;
 
 mod input;
-mod lines;
+mod report_lines;
 
 pub use input::read_input;
 

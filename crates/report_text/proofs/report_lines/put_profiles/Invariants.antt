@@ -7,7 +7,7 @@ use Rattle.pages.specs.Pages.{page, lay}
 use Rattle.report_text.specs.Report.{profile_lines}
 use Rattle.pages.proofs.PageLaws.{text-room, put-after}
 use Rattle.report_text.proofs.ReportLaws.{lay_along, profiles-more}
-use Rattle.report_text.proofs.lines.put_profiles.Given as goal
+use Rattle.report_text.proofs.report_lines.put_profiles.Given as goal
 
 abbrev pub invariant-loop-k : goal.invariant-loop-k
 invariant-loop-k l = (l.k ≤ l.n) × (length l.room ≡ length l.initial.room) × (page l.room l.at ≡ lay (page l.initial.room l.from) (profile_lines l.file l.k))

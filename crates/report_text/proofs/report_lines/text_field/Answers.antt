@@ -1,6 +1,6 @@
 use borrow.Author.Rules.{rules}
 use Rattle.pages.proofs.PageLaws.{put-after}
-use Rattle.report_text.proofs.lines.text_field.Goals as goal
+use Rattle.report_text.proofs.report_lines.text_field.Goals as goal
 
 pub returns : goal.returns
 returns c =

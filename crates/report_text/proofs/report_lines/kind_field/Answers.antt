@@ -1,6 +1,6 @@
 use borrow.Author.Rules.{rules}
 use Rattle.pages.specs.Pages.{lay}
-use Rattle.report_text.proofs.lines.kind_field.Goals as goal
+use Rattle.report_text.proofs.report_lines.kind_field.Goals as goal
 
 pub returns-in-Bottle : goal.returns-in-Bottle
 returns-in-Bottle c = rw c.in-Bottle.is c.text_field.ensures

@@ -7,7 +7,7 @@ use Rattle.pages.specs.Pages.{page, lay}
 use Rattle.report_text.specs.Report.{profile_lines}
 use Rattle.pages.proofs.PageLaws.{text-room, put-after}
 use Rattle.report_text.proofs.ReportLaws.{lay_along, profiles-more}
-use Rattle.report_text.proofs.lines.put_profiles.Goals as goal
+use Rattle.report_text.proofs.report_lines.put_profiles.Goals as goal
 
 pub loop-k-init : goal.loop-k-init
 unfolding profile_lines lay
