@@ -41,8 +41,7 @@ pub fn kind_number(kind: FileKind) -> u64
 }
 
 // Checks a file: number, line, column, kind, columns, rows, profiles, missing readings.
-#[unsafe(no_mangle)]
-pub extern "C" fn pochahuic_check(file: &[u8], out: &mut [u64; 8]) -> u64
+pub fn pochahuic_check(file: &[u8], out: &mut [u64; 8]) -> u64
     ensures value { result ≡ (checked_of file.now).number }
     ensures out_after { out.new ≡ check_numbers (checked_of file.now) }
 {
@@ -69,8 +68,7 @@ pub fn place_numbers(at: CellPlace) -> [u64; 5]
 }
 
 // Where a trimmed cell stands: number, line, column, start, length; the start counts from 0.
-#[unsafe(no_mangle)]
-pub extern "C" fn pochahuic_cell(file: &[u8], row: u64, column: u64, out: &mut [u64; 5]) -> u64
+pub fn pochahuic_cell(file: &[u8], row: u64, column: u64, out: &mut [u64; 5]) -> u64
     ensures value { result ≡ (place_for file.now row column).number }
     ensures out_after { out.new ≡ place_numbers (place_for file.now row column) }
 {
@@ -80,8 +78,7 @@ pub extern "C" fn pochahuic_cell(file: &[u8], row: u64, column: u64, out: &mut [
 }
 
 // Reads a decimal: PRESENT, MISSING or REFUSED; the millionths and the double, and number, line, column.
-#[unsafe(no_mangle)]
-pub extern "C" fn pochahuic_decimal(
+pub fn pochahuic_decimal(
     file: &[u8],
     row: u64,
     column: u64,
@@ -120,8 +117,7 @@ pub extern "C" fn pochahuic_decimal(
 }
 
 // Reads a flag: number, line, column, flag.
-#[unsafe(no_mangle)]
-pub extern "C" fn pochahuic_flag(file: &[u8], row: u64, column: u64, out: &mut [u64; 4]) -> u64
+pub fn pochahuic_flag(file: &[u8], row: u64, column: u64, out: &mut [u64; 4]) -> u64
     ensures value { result ≡ (flagged_of file.now row column).number }
     ensures out_after { out.new ≡ flag_numbers (flagged_of file.now row column) }
 {
@@ -141,8 +137,7 @@ fn time_numbers(time: CastTime) -> [u64; 3]
 }
 
 // The record of profile k: number, line, column, first row, rows, CASTNO, DATE, whether its time is given, hour, minute.
-#[unsafe(no_mangle)]
-pub extern "C" fn pochahuic_profile(file: &[u8], k: u64, out: &mut [u64; 10]) -> u64
+pub fn pochahuic_profile(file: &[u8], k: u64, out: &mut [u64; 10]) -> u64
     ensures value { result ≡ (profile_of file.now k).number }
     ensures out_after { out.new ≡ profile_numbers (profile_of file.now k) }
 {
@@ -156,13 +151,7 @@ pub extern "C" fn pochahuic_profile(file: &[u8], k: u64, out: &mut [u64; 10]) ->
 }
 
 // Where a station value of profile k stands, by its name: number, line, column, start, length; the start counts from 0.
-#[unsafe(no_mangle)]
-pub extern "C" fn pochahuic_station<'a>(
-    file: &'a [u8],
-    k: u64,
-    name: &'a [u8],
-    out: &mut [u64; 5],
-) -> u64
+pub fn pochahuic_station<'a>(file: &'a [u8], k: u64, name: &'a [u8], out: &mut [u64; 5]) -> u64
     ensures value { result ≡ (station_answer file.now (stationed_of file.now k name.now)).number }
     ensures out_after { out.new ≡ place_numbers (station_answer file.now (stationed_of file.now k name.now)) }
 {
@@ -172,8 +161,7 @@ pub extern "C" fn pochahuic_station<'a>(
 }
 
 // Makes one correction in the file: number, line, column.
-#[unsafe(no_mangle)]
-pub extern "C" fn pochahuic_correct(
+pub fn pochahuic_correct(
     file: &mut [u8],
     row: u64,
     column: u64,
@@ -211,8 +199,7 @@ pub extern "C" fn pochahuic_correct(
 }
 
 // Reads one line of a correction list: its millionths, and number, row, the name's start and length, decimals, flag; the start counts from 0.
-#[unsafe(no_mangle)]
-pub extern "C" fn pochahuic_list_line(line: &[u8], millionths: &mut i64, out: &mut [u64; 6]) -> u64
+pub fn pochahuic_list_line(line: &[u8], millionths: &mut i64, out: &mut [u64; 6]) -> u64
     ensures value { result ≡ (line_read line.now).number }
     ensures millionths_after { millionths.new ≡ (line_read line.now).millionths }
     ensures out_after { out.new ≡ line_numbers (line_read line.now) }

@@ -18,8 +18,7 @@ use pochahuic::{kind_number, place_numbers};
 use whole_columns::ColumnRead;
 
 // Opens a file: the eight numbers of a check, then where its headers, its names line and its first data line start.
-#[unsafe(no_mangle)]
-pub extern "C" fn pochahuic_open(file: &[u8], out: &mut [u64; 11]) -> u64
+pub fn pochahuic_open(file: &[u8], out: &mut [u64; 11]) -> u64
     ensures value { result ≡ (opened_of file.now).checked.number }
     ensures out_after { out.new ≡ open_numbers (opened_of file.now) }
 {
@@ -44,12 +43,7 @@ pub extern "C" fn pochahuic_open(file: &[u8], out: &mut [u64; 11]) -> u64
 }
 
 // The number of the column of a name: number, line, column, and that number.
-#[unsafe(no_mangle)]
-pub extern "C" fn pochahuic_column_named<'a>(
-    file: &'a [u8],
-    name: &'a [u8],
-    out: &mut [u64; 4],
-) -> u64
+pub fn pochahuic_column_named<'a>(file: &'a [u8], name: &'a [u8], out: &mut [u64; 4]) -> u64
     ensures value { result ≡ (named_of file.now name.now).number }
     ensures out_after { out.new ≡ named_numbers (named_of file.now name.now) }
 {
@@ -59,16 +53,14 @@ pub extern "C" fn pochahuic_column_named<'a>(
 }
 
 // The number of the column of a name in the names line that starts at `names`, 0 where there is none. It checks nothing: for whoever opened the file before.
-#[unsafe(no_mangle)]
-pub extern "C" fn pochahuic_column_in<'a>(file: &'a [u8], names: usize, name: &'a [u8]) -> u64
+pub fn pochahuic_column_in<'a>(file: &'a [u8], names: usize, name: &'a [u8]) -> u64
     ensures { result ≡ column_in_line (line_at file.now names) name.now }
 {
     exchange::column_in(file, names, name)
 }
 
 // Where the name of a column stands: number, line, column, start, length.
-#[unsafe(no_mangle)]
-pub extern "C" fn pochahuic_name(file: &[u8], column: u64, out: &mut [u64; 5]) -> u64
+pub fn pochahuic_name(file: &[u8], column: u64, out: &mut [u64; 5]) -> u64
     ensures value { result ≡ (name_place file.now column).number }
     ensures out_after { out.new ≡ place_numbers (name_place file.now column) }
 {
@@ -78,8 +70,7 @@ pub extern "C" fn pochahuic_name(file: &[u8], column: u64, out: &mut [u64; 5]) -
 }
 
 // Where its unit stands, likewise.
-#[unsafe(no_mangle)]
-pub extern "C" fn pochahuic_unit(file: &[u8], column: u64, out: &mut [u64; 5]) -> u64
+pub fn pochahuic_unit(file: &[u8], column: u64, out: &mut [u64; 5]) -> u64
     ensures value { result ≡ (unit_place file.now column).number }
     ensures out_after { out.new ≡ place_numbers (unit_place file.now column) }
 {
@@ -89,8 +80,7 @@ pub extern "C" fn pochahuic_unit(file: &[u8], column: u64, out: &mut [u64; 5]) -
 }
 
 // Where the name and the value of header k stand: number, line, column, start and length of each.
-#[unsafe(no_mangle)]
-pub extern "C" fn pochahuic_header(file: &[u8], k: u64, out: &mut [u64; 7]) -> u64
+pub fn pochahuic_header(file: &[u8], k: u64, out: &mut [u64; 7]) -> u64
     ensures value { result ≡ (header_for file.now k).number }
     ensures out_after { out.new ≡ header_numbers (header_for file.now k) }
 {
@@ -114,8 +104,7 @@ fn column_numbers(r: ColumnRead) -> [u64; 4]
 }
 
 // The decimals of a column, one entry of each table for each row: number, line, column, rows.
-#[unsafe(no_mangle)]
-pub extern "C" fn pochahuic_column_values(
+pub fn pochahuic_column_values(
     file: &[u8],
     column: u64,
     cases: &mut [u8],
@@ -135,13 +124,7 @@ pub extern "C" fn pochahuic_column_values(
 }
 
 // The flags of a flag column, one entry for each row: number, line, column, rows.
-#[unsafe(no_mangle)]
-pub extern "C" fn pochahuic_column_flags(
-    file: &[u8],
-    column: u64,
-    flags: &mut [u8],
-    out: &mut [u64; 4],
-) -> u64
+pub fn pochahuic_column_flags(file: &[u8], column: u64, flags: &mut [u8], out: &mut [u64; 4]) -> u64
     ensures value { result ≡ (flags_of file.now column (length flags.old)).number }
     ensures out_after { out.new ≡ column_numbers (flags_of file.now column (length flags.old)) }
     ensures flags_after { flags.new ≡ filled_from (λ i. (flagged_of file.now i column).flag) 1 (flags_of file.now column (length flags.old)).rows flags.old }

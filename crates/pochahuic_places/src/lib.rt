@@ -12,24 +12,21 @@ ghost use Rattle.pochahuic.specs.Numbers.{place_numbers};
 use pochahuic::place_numbers;
 
 // The kind of a column of the names line that starts at `names`.
-#[unsafe(no_mangle)]
-pub extern "C" fn pochahuic_kind_in(file: &[u8], names: usize, column: u64) -> u64
+pub fn pochahuic_kind_in(file: &[u8], names: usize, column: u64) -> u64
     ensures { result ≡ kind_in_line (line_at file.now names) column }
 {
     exchange::kind_in(file, names, column) as u64
 }
 
 // The number of its flag column, 0 where there is none.
-#[unsafe(no_mangle)]
-pub extern "C" fn pochahuic_flag_column_in(file: &[u8], names: usize, column: u64) -> u64
+pub fn pochahuic_flag_column_in(file: &[u8], names: usize, column: u64) -> u64
     ensures { result ≡ flag_in_line (line_at file.now names) column }
 {
     exchange::flag_column(file, names, column)
 }
 
 // Where the trimmed cell of a column stands, in the line that starts at `at`: number, line, column, start, length.
-#[unsafe(no_mangle)]
-pub extern "C" fn pochahuic_cell_in(file: &[u8], at: usize, column: u64, out: &mut [u64; 5]) -> u64
+pub fn pochahuic_cell_in(file: &[u8], at: usize, column: u64, out: &mut [u64; 5]) -> u64
     ensures value { result ≡ (cell_in file.now at column).number }
     ensures out_after { out.new ≡ place_numbers (cell_in file.now at column) }
 {
@@ -39,8 +36,7 @@ pub extern "C" fn pochahuic_cell_in(file: &[u8], at: usize, column: u64, out: &m
 }
 
 // Where the line after the one at `at` starts.
-#[unsafe(no_mangle)]
-pub extern "C" fn pochahuic_line_after(file: &[u8], at: usize) -> u64
+pub fn pochahuic_line_after(file: &[u8], at: usize) -> u64
     ensures { result ≡ line_after file.now at }
 {
     exchange::line_after(file, at) as u64

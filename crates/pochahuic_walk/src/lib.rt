@@ -11,8 +11,7 @@ use format::CellPlace;
 use line_bytes::Span;
 
 // Opens a file: checks it and stands on its first cell.
-#[unsafe(no_mangle)]
-pub extern "C" fn pochahuic_walk_open(file: &[u8], cursor: &mut [u64; 10]) -> u64
+pub fn pochahuic_walk_open(file: &[u8], cursor: &mut [u64; 10]) -> u64
     ensures value { result ≡ (open_of file.now).cell.number }
     ensures cursor_after { cursor.new ≡ cursor_numbers (open_of file.now) }
 {
@@ -22,8 +21,7 @@ pub extern "C" fn pochahuic_walk_open(file: &[u8], cursor: &mut [u64; 10]) -> u6
 }
 
 // Goes on to the next cell. It checks nothing: the file is the one that was opened.
-#[unsafe(no_mangle)]
-pub extern "C" fn pochahuic_walk_next(file: &[u8], cursor: &mut [u64; 10]) -> u64
+pub fn pochahuic_walk_next(file: &[u8], cursor: &mut [u64; 10]) -> u64
     ensures value { result ≡ (step_of file.now (cursor_of cursor.old)).cell.number }
     ensures cursor_after { cursor.new ≡ cursor_numbers (step_of file.now (cursor_of cursor.old)) }
 {
