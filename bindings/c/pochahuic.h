@@ -115,10 +115,6 @@ uint64_t pochahuic_column_values(const uint8_t *file, size_t length, uint64_t co
 /* Reads a whole flag column, which is the column given, likewise: entry r - 1 is row r's flag, 1 to 9. out[3]: the rows, or 0 where refused. */
 uint64_t pochahuic_column_flags(const uint8_t *file, size_t length, uint64_t column, uint8_t *flags, size_t flags_length, uint64_t out[4]);
 
-/* All profiles in one check and one pass: entry k - 1 of the two tables is the first row and the number of rows of profile k, as pochahuic_profile gives them.
- * out[3]: the number of profiles, or 0 where refused; 29 where a table has fewer entries. */
-uint64_t pochahuic_profiles(const uint8_t *file, size_t length, uint64_t *firsts, size_t firsts_length, uint64_t *counts, size_t counts_length, uint64_t out[4]);
-
 /* The calls below check nothing: they are for whoever opened the file before, and take any bytes and any place in them. `names` is out[9] of pochahuic_open; `at` is
  * where a line starts: out[10] is row 1's, pochahuic_line_after the next one's. A correction moves no line, so places hold after it. */
 
@@ -132,18 +128,6 @@ uint64_t pochahuic_cell_in(const uint8_t *file, size_t length, size_t at, uint64
 
 /* Answers where the line after the one at `at` starts; the file's length where there is none. */
 uint64_t pochahuic_line_after(const uint8_t *file, size_t length, size_t at);
-
-/* All cells of the line that starts at `at` in one pass, each by the kind that kinds has for it. cases: POCHAHUIC_PRESENT; POCHAHUIC_MISSING, for -999 in a measured
- * or DEPTH column and as a TIME; POCHAHUIC_REFUSED, for a text that is not good for that kind, which no row of an accepted file has by the kinds of its columns.
- * numbers: the millionths of a decimal, a flag, CASTNO, DATE as YYYYMMDD, TIME as HHMM; 0 for a text, and wherever the case is not POCHAHUIC_PRESENT. POCHAHUIC_FREE is good
- * for every text, and quick: give it for a column whose number is not wanted.
- * Answers 0; 15 where the line has not as many cells as there are kinds; 29 where a table is shorter than that. Refused, it writes nothing. */
-uint64_t pochahuic_row_in(const uint8_t *file, size_t length, size_t at, const uint8_t *kinds, size_t kinds_length, uint8_t *cases, size_t cases_length,
-                          int64_t *numbers, size_t numbers_length);
-
-/* Answers where the names line starts, by the places of lines 1, the comments and the headers alone: so that the cells of a file that is refused at a data line have
- * the names of their columns (pochahuic_cell_in). The file's length where there is none. */
-uint64_t pochahuic_names_at(const uint8_t *file, size_t length);
 
 /* Walk a file cell by cell, row by row from the left, each cell once, with one check in all:
  *
