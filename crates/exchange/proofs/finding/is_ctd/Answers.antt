@@ -1,7 +1,6 @@
 -- The column's name is the trimmed cell of the names line.
 use native.Mathlib.Omega.{arith}
 use Rattle.exchange.proofs.LocateLaws.{name-room, name-ctd}
-use borrow.Author.Rules.{rules}
 use Rattle.exchange.proofs.finding.is_ctd.Goals as goal
 
 pub overflow_add-p : goal.overflow_add-p

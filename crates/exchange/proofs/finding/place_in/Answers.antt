@@ -1,6 +1,5 @@
 -- Column 0 is none.
 use Rattle.exchange.proofs.LocateLaws.{place-some, place_none}
-use borrow.Author.Rules.{rules}
 use Rattle.exchange.proofs.finding.place_in.Goals as goal
 
 pub returns-then-column-gt0 : goal.returns-then-column-gt0
