@@ -19,7 +19,7 @@ use Rattle.verdicts.proofs.JudgeLaws.{judged-stop}
 use Rattle.line_bytes.proofs.SpaceLaws.{span_fits}
 use Rattle.line_bytes.specs.Cells.{line_at, cell_at, cell_end}
 use Rattle.line_bytes.proofs.CellLaws.{stop_moved}
-use Rattle.exchange.specs.declared.cells.Cell.{Cell}
+use Rattle.exchange.specs.declared.finding.Cell.{Cell}
 use Rattle.format.specs.declared.Flagged.{Flagged}
 use Rattle.format.specs.declared.CellPlace.{CellPlace}
 use Rattle.format.specs.declared.Opened.{Opened}

@@ -9,7 +9,7 @@ use borrow.Author.Tests.{lt-ltb, le-ltb}
 use Rattle.line_bytes.specs.declared.Span.{Span}
 use Rattle.line_bytes.specs.Cells.{line_at}
 use Rattle.line_bytes.specs.Names.{begins_ctd}
-use Rattle.exchange.specs.declared.cells.Cell.{Cell}
+use Rattle.exchange.specs.declared.finding.Cell.{Cell}
 use Rattle.format.specs.declared.Located.{Located}
 use Rattle.format.specs.Columns.{names_of}
 use Rattle.format.specs.Grid.{nowhere}

@@ -10,7 +10,7 @@ ghost use Rattle.format.specs.Located.{located_of};
 use grid::no_place;
 use text::{Reading, Span, kinds, refusals};
 
-mod cells;
+mod finding;
 
 pub use format::{
     CastTime, CellPlace, Checked, DecimalStep, FileKind, FlagStep, Flagged, HeaderPlace, Located,
@@ -30,7 +30,7 @@ pub use rules::{check, open_file};
 pub fn cell_place(file: &[u8], row: u64, column: u64) -> CellPlace
     ensures { result ≡ place_for file.now row column }
 {
-    let a = cells::find_cell(file, row, column);
+    let a = finding::find_cell(file, row, column);
     if a.number != 0 {
         return no_place(a.number, a.line, a.column);
     }
@@ -58,7 +58,7 @@ pub fn cell<'a>(file: &'a [u8], row: u64, column: u64, refusal: &mut [u64; 3]) -
 pub fn decimal(file: &[u8], row: u64, column: u64) -> Reading
     ensures { result ≡ reading_for file.now row column }
 {
-    let a = cells::find_cell(file, row, column);
+    let a = finding::find_cell(file, row, column);
     if a.number != 0 {
         return Reading::Refused {
             number: a.number,
@@ -73,7 +73,7 @@ pub fn decimal(file: &[u8], row: u64, column: u64) -> Reading
 pub fn flag(file: &[u8], row: u64, column: u64) -> Flagged
     ensures { result ≡ flagged_of file.now row column }
 {
-    let a = cells::find_cell(file, row, column);
+    let a = finding::find_cell(file, row, column);
     if a.number != 0 {
         return Flagged {
             number: a.number,
@@ -103,7 +103,7 @@ pub fn flag(file: &[u8], row: u64, column: u64) -> Flagged
 pub fn locate(file: &[u8], row: u64, column: u64) -> Located
     ensures { result ≡ located_of file.now row column }
 {
-    let a = cells::find_cell(file, row, column);
+    let a = finding::find_cell(file, row, column);
     if a.number != 0 {
         return Located {
             number: a.number,
@@ -126,8 +126,8 @@ pub fn locate(file: &[u8], row: u64, column: u64) -> Located
             len: a.len,
         },
         measured: a.kind == kinds::MEASURED,
-        ctd: cells::is_ctd(file, a.names, (column - 1) as usize),
+        ctd: finding::is_ctd(file, a.names, (column - 1) as usize),
         flagged: 0 < flag,
-        flag: cells::place_in(file, a.at, flag),
+        flag: finding::place_in(file, a.at, flag),
     }
 }

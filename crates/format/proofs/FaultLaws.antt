@@ -1,5 +1,5 @@
 -- Faults: by their number, and one after the other.
-use Prim.Native.Nat.{ℕ, zero, suc, ◌-◌}
+use Prim.Native.Nat.{ℕ, zero, suc}
 use mathlib.Core.Path.{◌≡◌, refl, sym}
 use native.Mathlib.Omega.{arith}
 use Rattle.format.specs.Faults.{Fault, clean, breaks, ◌then◌}

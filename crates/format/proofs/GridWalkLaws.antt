@@ -18,7 +18,6 @@ use Rattle.line_bytes.proofs.SpaceLaws.{slice-take}
 use Rattle.format.specs.Grid.{starts, span_in}
 use Rattle.format.specs.Inner.Grid.{line_start, cell_span, count_of, skip, skipped}
 use Rattle.format.proofs.RunLaws.{piece_in, piece-take}
-use Rattle.format.specs.Places.{after}
 
 -- ---- skipping line feeds
 suc-cond : (z : Bool) (a b c d : ℕ) → suc a ≡ c → suc b ≡ d → suc (cond z a b) ≡ cond z c d

@@ -5,7 +5,7 @@
 --   join_at, join-set : the pieces joined, around piece i; and with another text in its place
 --   length_before : what stands before piece i is as long as `starts` says
 --   join-length-set : a piece replaced by one as long leaves the length
-use Prim.Native.Nat.{ℕ, zero, suc, ◌+◌, ◌<◌}
+use Prim.Native.Nat.{ℕ, zero, suc, ◌<◌}
 use mathlib.Core.Path.{◌≡◌, refl, ap, ◌∙◌}
 use mathlib.Core.Bool.{Bool, true, false, cond}
 use mathlib.Core.List.{List, [], ◌∷◌, ◌++◌, map, append_assoc, append-nil}

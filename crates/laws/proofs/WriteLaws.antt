@@ -26,7 +26,7 @@ use Rattle.verdicts.specs.Judge.{of_kind, judge}
 use Rattle.line_bytes.proofs.EqualLaws.{equal-same}
 use Rattle.line_bytes.proofs.EveryLaws.{every-cons}
 use Rattle.line_bytes.specs.Inner.Lines.{is_plain}
-use Rattle.format.specs.Faults.{clean, breaks, ◌then◌, unless, kind_fault, first_of}
+use Rattle.format.specs.Faults.{clean, breaks, unless, kind_fault, first_of}
 use Rattle.format.specs.Columns.{kinds_of}
 use Rattle.format.specs.Rows.{is_end_data, cell_rules, row_rules}
 use Rattle.laws.specs.Inner.Writes.{join, ungrid, Write, written}

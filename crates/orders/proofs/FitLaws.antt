@@ -16,7 +16,7 @@ use Rattle.verdicts.specs.Kinds.{kind_of}
 use Rattle.verdicts.specs.Judge.{judge, in_set}
 use Rattle.line_bytes.proofs.EveryLaws.{every-cons}
 use Rattle.line_bytes.specs.Inner.Lines.{is_plain}
-use Rattle.format.specs.Faults.{clean, ◌then◌, unless, kind_fault, first_of}
+use Rattle.format.specs.Faults.{clean, unless, kind_fault, first_of}
 use Rattle.format.specs.Columns.{kinds_of}
 use Rattle.format.specs.Rows.{cell_rules, row_rules}
 use Rattle.format.specs.Places.{Table, accepted, outcome_of}

@@ -13,7 +13,6 @@ use Rattle.line_bytes.specs.Bytes.{bytes, equal}
 use Rattle.line_bytes.specs.Spaces.{trim}
 use Rattle.verdicts.specs.Kinds.{Kind, castno, date}
 use Rattle.verdicts.specs.Judge.{judge}
-use Rattle.text.specs.Catalogue.{names, kinds}
 use Rattle.verdicts.specs.Verdicts.{size_of}
 use Rattle.format.specs.Faults.{place_in}
 use Rattle.format.specs.Headers.{Header}

@@ -12,7 +12,7 @@ use Rattle.verdicts.specs.declared.Keys.{Keys}
 use Rattle.verdicts.specs.declared.CellsRead.{CellsRead}
 use Rattle.line_bytes.specs.Cells.{cell_at, cell_end}
 use Rattle.line_bytes.specs.Spaces.{trim}
-use Rattle.verdicts.specs.Verdicts.{Verdict, good, number_of, is_good, size_of}
+use Rattle.verdicts.specs.Verdicts.{Verdict, number_of, is_good, size_of}
 use Rattle.verdicts.specs.Kinds.{castno, kind_of}
 use Rattle.verdicts.specs.Judge.{judge, judged_of, stops_at}
 use Rattle.verdicts.specs.Rows.{is_missing_number, missing_in, noted, no_keys, no_cells, ended_at, is_last, cells_from, cells_at}

@@ -1,7 +1,6 @@
 -- src/lib.rt:174:45
 -- src/lib.rt:174:9
 -- src/lib.rt:170:1
-use borrow.Author.Rules.{rules}
 use Rattle.verdicts.proofs.RowLaws.{one_cell}
 use Rattle.cells.proofs.judge.Goals as goal
 

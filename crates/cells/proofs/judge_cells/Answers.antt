@@ -4,7 +4,6 @@
 -- src/lib.rt:159:1
 -- src/lib.rt:159:1
 use mathlib.Core.Path.{sym, ◌∙◌}
-use borrow.Author.Rules.{rules}
 use Rattle.verdicts.specs.Rows.{cells_at}
 use Rattle.verdicts.proofs.JudgeLaws.{stop_from}
 use Rattle.cells.proofs.judge_cells.Goals as goal

@@ -1,9 +1,6 @@
 -- The cells passed are placed, and the rest of the line has the others.
 use Prim.Native.Nat.{◌-◌, ◌≤◌}
-use mathlib.Core.Path.{◌≡◌, refl, sym, ◌∙◌}
-use native.Mathlib.Omega.{arith}
-use borrow.Author.Rules.{rules}
-use Rattle.columns.proofs.NamesLineLaws.{Walked, walked_none, walked_more, placed-more, walked-last, walked-room, walked_on_lem}
+use Rattle.columns.proofs.NamesLineLaws.{Walked}
 use Rattle.columns.proofs.cells_of.Given as goal
 
 abbrev pub invariant-loop-count : goal.invariant-loop-count

@@ -1,5 +1,4 @@
 -- The first column of that name.
-use borrow.Author.Rules.{rules}
 use Rattle.columns.proofs.AskedLaws.{column_looked}
 use Rattle.columns.proofs.column_in.Goals as goal
 

@@ -1,11 +1,8 @@
 -- No column passed is wanted, and the rest of the line has the others.
 use Prim.Native.Nat.{◌-◌}
 use lib.ListN.{length}
-use mathlib.Core.Path.{sym, ◌∙◌}
-use native.Mathlib.Omega.{arith}
-use borrow.Author.Rules.{rules}
 use Rattle.columns.specs.Inner.NamesLine.{is_wanted}
-use Rattle.columns.proofs.AskedLaws.{Looked, look-first, look-found, look_none, look-room, look-next}
+use Rattle.columns.proofs.AskedLaws.{Looked}
 use Rattle.columns.proofs.column_where.Given as goal
 
 abbrev pub invariant-loop-at : goal.invariant-loop-at

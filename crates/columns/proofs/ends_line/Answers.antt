@@ -1,5 +1,4 @@
 -- At the end of the bytes, or at a line feed.
-use borrow.Author.Rules.{rules}
 use Rattle.columns.proofs.NamesLineLaws.{last_past, last-fed}
 use Rattle.columns.proofs.ends_line.Goals as goal
 

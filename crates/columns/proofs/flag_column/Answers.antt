@@ -1,5 +1,4 @@
 -- The first flag column of the column's name.
-use borrow.Author.Rules.{rules}
 use Rattle.columns.proofs.AskedLaws.{flag_looked}
 use Rattle.columns.proofs.flag_column.Goals as goal
 

@@ -1,7 +1,6 @@
 -- 11 by the cells found, then 12 by the kinds, then 13.
 use mathlib.Core.Path.{refl, sym}
 use native.Mathlib.Omega.{arith}
-use borrow.Author.Rules.{rules}
 use Rattle.line_bytes.specs.Cells.{pieces, line_at}
 use Rattle.format.specs.Inner.Sorts.{sort_for}
 use Rattle.columns.proofs.NamesLineLaws.{start-after, start-column}

@@ -1,5 +1,4 @@
 -- The station names, or CTDPRS.
-use borrow.Author.Rules.{rules}
 use Rattle.format.specs.Inner.Names.{names_at}
 use Rattle.format.proofs.NameLaws.{names-length}
 use Rattle.columns.proofs.ColumnLaws.{required-bottle, required-ctd, pressure-found}

@@ -1,5 +1,4 @@
 -- The name itself, or the parameter of a flag column.
-use borrow.Author.Rules.{rules}
 use Rattle.columns.proofs.ColumnLaws.{parameter_taken}
 use Rattle.columns.proofs.AskedLaws.{wanted-name, wanted-flag}
 use Rattle.columns.proofs.is_wanted.Goals as goal

@@ -1,6 +1,5 @@
 -- A parameter is one of the names and no flag column's.
 use native.Mathlib.Omega.{arith}
-use borrow.Author.Rules.{rules}
 use Rattle.format.proofs.NameLaws.{names-length}
 use Rattle.columns.proofs.ColumnLaws.{parameter_taken, keeps_plain, keeps-flag, keeps_placed}
 use Rattle.columns.proofs.keeps_parameter.Goals as goal

@@ -1,5 +1,4 @@
 -- The kind of the column's name.
-use borrow.Author.Rules.{rules}
 use Rattle.columns.proofs.AskedLaws.{kind_of-column}
 use Rattle.columns.proofs.kind_in.Goals as goal
 

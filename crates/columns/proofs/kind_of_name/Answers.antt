@@ -1,7 +1,6 @@
 -- A flag column has one of the two kinds of flags, another that of the catalogue.
 use mathlib.Core.Path.{sym, ◌∙◌}
 use mathlib.Core.Bool.{true, false}
-use borrow.Author.Rules.{rules}
 use Rattle.columns.proofs.ColumnLaws.{parameter_taken, kind-listed, kind-flagged}
 use Rattle.columns.proofs.kind_of_name.Goals as goal
 

@@ -1,11 +1,7 @@
 -- The columns passed have their kinds, and rule 12 goes on from the present name.
 use Prim.Native.Nat.{◌-◌}
-use mathlib.Core.Path.{refl}
-use native.Mathlib.Omega.{arith}
-use borrow.Author.Rules.{rules}
 use Rattle.line_bytes.specs.Cells.{pieces, line_at}
-use Rattle.columns.proofs.NamesLineLaws.{start-after, start-column}
-use Rattle.columns.proofs.ColumnLaws.{Kinded, kinded-none, turn-refused, turn-kept, kinds-refused, kinds_done}
+use Rattle.columns.proofs.ColumnLaws.{Kinded}
 use Rattle.columns.proofs.kinds_of.Given as goal
 
 abbrev pub invariant-loop-k : goal.invariant-loop-k

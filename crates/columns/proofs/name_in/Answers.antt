@@ -1,7 +1,6 @@
 -- The trimmed text at the place of the cell, which is nowhere where there is no such cell.
 use mathlib.Core.Logic.{⊎_elim}
 use native.Mathlib.Omega.{arith}
-use borrow.Author.Rules.{rules}
 use Rattle.columns.proofs.AskedLaws.{name-none, name-some, name-room}
 use Rattle.columns.proofs.name_in.Goals as goal
 

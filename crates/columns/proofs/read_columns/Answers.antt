@@ -1,7 +1,6 @@
 -- 10 and 9 by the first fault of the first 256 names, then the other rules.
 use mathlib.Core.Path.{sym, ◌∙◌}
 use native.Mathlib.Omega.{arith}
-use borrow.Author.Rules.{rules}
 use Rattle.line_bytes.specs.Cells.{pieces, line_at}
 use Rattle.format.specs.Inner.Sorts.{sort_for}
 use Rattle.columns.proofs.NamesLineLaws.{start-after, start-column}

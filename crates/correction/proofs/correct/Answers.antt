@@ -1,4 +1,3 @@
-use borrow.Author.Rules.{rules}
 use Rattle.correction.proofs.CorrectLaws.{correct-refused, correct-applied}
 use Rattle.correction.proofs.correct.Goals as goal
 

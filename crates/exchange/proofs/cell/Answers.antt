@@ -5,7 +5,6 @@ use native.Mathlib.Nat.{add_comm, add-sub_cancel_left}
 use native.Mathlib.Omega.{arith}
 use lib.ListN.{take, drop}
 use Rattle.exchange.proofs.CellLaws.{place_is, place-refusal, place-fits}
-use borrow.Author.Rules.{rules}
 use Rattle.exchange.proofs.cell.Goals as goal
 
 pub overflow_add-end : goal.overflow_add-end

@@ -2,7 +2,6 @@
 use mathlib.Core.Path.{◌∙◌}
 use native.Mathlib.Omega.{arith}
 use Rattle.exchange.proofs.CellLaws.{call-place, read-place}
-use borrow.Author.Rules.{rules}
 use Rattle.exchange.proofs.cell_place.Goals as goal
 
 pub returns-then-a-ne0 : goal.returns-then-a-ne0

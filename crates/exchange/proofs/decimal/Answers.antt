@@ -1,5 +1,4 @@
 use Rattle.exchange.proofs.CellLaws.{call_reading, read_reading}
-use borrow.Author.Rules.{rules}
 use Rattle.exchange.proofs.decimal.Goals as goal
 
 pub returns-then-a-ne0 : goal.returns-then-a-ne0

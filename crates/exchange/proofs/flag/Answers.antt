@@ -1,5 +1,4 @@
 use Rattle.exchange.proofs.CellLaws.{call-flag, read-flag, read-other}
-use borrow.Author.Rules.{rules}
 use Rattle.exchange.proofs.flag.Goals as goal
 
 pub returns-then-a-ne0 : goal.returns-then-a-ne0

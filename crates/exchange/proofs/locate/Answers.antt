@@ -1,6 +1,5 @@
 -- The refusal, or the cells and the name of the column that was asked for.
 use Rattle.exchange.proofs.LocateLaws.{locate-refused, locate-found}
-use borrow.Author.Rules.{rules}
 use Rattle.exchange.proofs.locate.Goals as goal
 
 pub returns-then-a-ne0 : goal.returns-then-a-ne0

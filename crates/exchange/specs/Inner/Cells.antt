@@ -3,7 +3,7 @@ use Rattle.std.specs.Prelude.{ℕ, ◌+◌, ◌-◌, ◌≤◌, ◌≡◌, List,
 use Rattle.line_bytes.specs.Bytes.{comma}
 use Rattle.line_bytes.specs.Cells.{line_at, cell_at}
 use Rattle.line_bytes.specs.Inner.Scans.{Stop}
-use Rattle.exchange.specs.declared.cells.Cell.{Cell}
+use Rattle.exchange.specs.declared.finding.Cell.{Cell}
 use Rattle.format.specs.Columns.{names_of}
 use Rattle.format.specs.Places.{Table}
 use Rattle.format.specs.Inner.Grid.{cell_span}

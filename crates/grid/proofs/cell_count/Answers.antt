@@ -1,10 +1,7 @@
 -- The loop's invariant: the cells counted and those of the rest of the line are those of the line.
-use Prim.Native.Nat.{◌+◌, ◌-◌, ◌≤◌, ◌<◌}
-use mathlib.Core.Path.{◌≡◌}
+use Prim.Native.Nat.{◌<◌}
 use native.Mathlib.Omega.{arith}
 use lib.ListN.{length}
-use borrow.Author.Rules.{rules}
-use Rattle.line_bytes.specs.Cells.{pieces, line_at}
 use Rattle.line_bytes.proofs.CellLaws.{count-end}
 use Rattle.format.proofs.GridWalkLaws.{count-comma, count-other, count_past}
 use Rattle.grid.proofs.cell_count.Goals as goal

@@ -1,10 +1,6 @@
 -- The loop's invariant: the cell that goes on at p ends where that at i does.
-use Prim.Native.Nat.{◌-◌, ◌≤◌}
-use mathlib.Core.Path.{◌≡◌, refl, sym, ◌∙◌}
+use mathlib.Core.Path.{refl, sym, ◌∙◌}
 use native.Mathlib.Omega.{arith}
-use lib.ListN.{length}
-use borrow.Author.Rules.{rules}
-use Rattle.line_bytes.specs.Cells.{cell_end}
 use Rattle.line_bytes.proofs.CellLaws.{cell_end_in, cell_end-end}
 use Rattle.format.proofs.GridWalkLaws.{end_past}
 use Rattle.grid.proofs.cell_end.Goals as goal

@@ -3,7 +3,6 @@ use Prim.Native.Nat.{◌+◌, ◌-◌, ◌≤◌, ◌<◌}
 use mathlib.Core.Path.{◌≡◌, sym, ◌∙◌, ap}
 use native.Mathlib.Omega.{arith}
 use lib.ListN.{length}
-use borrow.Author.Rules.{rules}
 use Rattle.format.specs.Inner.Grid.{cell_span}
 use Rattle.format.proofs.CellWalkLaws.{cell_past, cell-fed, cell-comma, cell_other}
 use Rattle.grid.proofs.cell_span.Goals as goal

@@ -1,12 +1,8 @@
 -- The loop's invariant: `left` cells on from i as `column` from the start.
-use Prim.Native.Nat.{◌+◌, ◌-◌, ◌≤◌, ◌<◌}
-use mathlib.Core.Path.{◌≡◌, sym, ◌∙◌, ap}
-use mathlib.Core.Logic.{⊎_elim}
-use native.Mathlib.Omega.{arith}
+use Prim.Native.Nat.{◌-◌, ◌≤◌}
+use mathlib.Core.Path.{◌≡◌}
 use lib.ListN.{length}
-use borrow.Author.Rules.{rules}
 use Rattle.format.specs.Inner.Grid.{cell_span}
-use Rattle.format.proofs.CellWalkLaws.{cell_past, cell-fed, cell-comma, cell_other}
 use Rattle.grid.proofs.cell_span.Given as goal
 
 abbrev pub invariant-loop-i : goal.invariant-loop-i

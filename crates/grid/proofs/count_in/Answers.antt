@@ -1,11 +1,10 @@
 -- The loop's invariant: n counts the first k bytes from i on.
-use Prim.Native.Nat.{ℕ, ◌+◌, ◌-◌, ◌≤◌}
+use Prim.Native.Nat.{ℕ, ◌+◌}
 use mathlib.Core.Path.{◌≡◌, sym, ◌∙◌, ap}
 use native.Mathlib.Omega.{arith}
 use mathlib.Core.Bool.{cond}
 use lib.ListN.{get_or, take, drop}
 use lib.Dec.{eqb}
-use borrow.Author.Rules.{rules}
 use Rattle.format.specs.Inner.Grid.{count_of}
 use Rattle.format.proofs.GridWalkLaws.{count_none, count_byte}
 use Rattle.grid.proofs.count_in.Goals as goal

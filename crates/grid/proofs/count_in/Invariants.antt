@@ -1,13 +1,8 @@
 -- The loop's invariant: n counts the first k bytes from i on.
-use Prim.Native.Nat.{ℕ, ◌+◌, ◌-◌, ◌≤◌}
-use mathlib.Core.Path.{◌≡◌, sym, ◌∙◌, ap}
-use native.Mathlib.Omega.{arith}
-use mathlib.Core.Bool.{cond}
-use lib.ListN.{get_or, take, drop}
-use lib.Dec.{eqb}
-use borrow.Author.Rules.{rules}
+use Prim.Native.Nat.{◌-◌, ◌≤◌}
+use mathlib.Core.Path.{◌≡◌}
+use lib.ListN.{take, drop}
 use Rattle.format.specs.Inner.Grid.{count_of}
-use Rattle.format.proofs.GridWalkLaws.{count_none, count_byte}
 use Rattle.grid.proofs.count_in.Given as goal
 
 abbrev pub invariant-loop-k : goal.invariant-loop-k

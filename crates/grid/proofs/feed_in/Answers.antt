@@ -1,10 +1,8 @@
 -- The loop's invariant: where no line feed is found, the first k bytes from i on have none.
-use Prim.Native.Nat.{ℕ, ◌-◌, ◌≤◌}
+use Prim.Native.Nat.{ℕ}
 use mathlib.Core.Path.{◌≡◌, subst}
-use mathlib.Core.Bool.{false}
 use native.Mathlib.Omega.{arith}
 use lib.ListN.{take, drop}
-use borrow.Author.Rules.{rules}
 use Rattle.format.specs.Inner.Grid.{count_of}
 use Rattle.format.proofs.GridWalkLaws.{count_none}
 use Rattle.format.proofs.CellWalkLaws.{none_more}

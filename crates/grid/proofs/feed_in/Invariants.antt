@@ -1,13 +1,9 @@
 -- The loop's invariant: where no line feed is found, the first k bytes from i on have none.
-use Prim.Native.Nat.{ℕ, ◌-◌, ◌≤◌}
-use mathlib.Core.Path.{◌≡◌, subst}
+use Prim.Native.Nat.{◌-◌, ◌≤◌}
+use mathlib.Core.Path.{◌≡◌}
 use mathlib.Core.Bool.{false}
-use native.Mathlib.Omega.{arith}
 use lib.ListN.{take, drop}
-use borrow.Author.Rules.{rules}
 use Rattle.format.specs.Inner.Grid.{count_of}
-use Rattle.format.proofs.GridWalkLaws.{count_none}
-use Rattle.format.proofs.CellWalkLaws.{none_more}
 use Rattle.grid.proofs.feed_in.Given as goal
 
 abbrev pub invariant-loop-k : goal.invariant-loop-k

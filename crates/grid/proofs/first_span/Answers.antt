@@ -1,6 +1,5 @@
 use mathlib.Core.Path.{sym}
 use native.Mathlib.Omega.{arith}
-use borrow.Author.Rules.{rules}
 use Rattle.line_bytes.proofs.CellLaws.{cell_end_from}
 use Rattle.format.proofs.GridWalkLaws.{span_own}
 use Rattle.grid.proofs.first_span.Goals as goal

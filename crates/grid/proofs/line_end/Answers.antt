@@ -1,10 +1,6 @@
 -- The loop's invariant: the line that goes on at p ends where that at i does.
-use Prim.Native.Nat.{◌+◌, ◌-◌, ◌≤◌}
-use mathlib.Core.Path.{◌≡◌, sym, ◌∙◌}
+use mathlib.Core.Path.{sym, ◌∙◌}
 use native.Mathlib.Omega.{arith}
-use lib.ListN.{length}
-use borrow.Author.Rules.{rules}
-use Rattle.line_bytes.specs.Cells.{line_at}
 use Rattle.format.proofs.GridWalkLaws.{line-stop, line_on, line-none}
 use Rattle.grid.proofs.line_end.Goals as goal
 

@@ -1,9 +1,8 @@
 -- The loop's invariant: so many line feeds on from `at` as from the start.
-use Prim.Native.Nat.{◌+◌, ◌-◌, ◌≤◌, ◌<◌}
+use Prim.Native.Nat.{◌+◌, ◌≤◌, ◌<◌}
 use mathlib.Core.Path.{◌≡◌, sym, ◌∙◌}
 use native.Mathlib.Omega.{arith}
 use lib.ListN.{length}
-use borrow.Author.Rules.{rules}
 use Rattle.format.specs.Inner.Grid.{skipped}
 use Rattle.format.proofs.GridWalkLaws.{start_none, start_past, start-skipped, skipped-end, skipped-last, skipped-fed, skipped_past}
 use Rattle.grid.proofs.line_start.Goals as goal

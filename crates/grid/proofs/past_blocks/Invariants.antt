@@ -1,11 +1,8 @@
 -- The loop's invariant: so many line feeds on from `at` as from the start.
 use Prim.Native.Nat.{◌-◌, ◌≤◌}
-use mathlib.Core.Path.{◌≡◌, refl, ◌∙◌}
-use native.Mathlib.Omega.{arith}
+use mathlib.Core.Path.{◌≡◌}
 use lib.ListN.{length}
-use borrow.Author.Rules.{rules}
 use Rattle.format.specs.Inner.Grid.{skipped}
-use Rattle.format.proofs.GridWalkLaws.{skipped-block}
 use Rattle.grid.proofs.past_blocks.Given as goal
 
 abbrev pub invariant-loop-at : goal.invariant-loop-at

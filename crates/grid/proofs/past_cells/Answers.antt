@@ -1,10 +1,7 @@
 -- The loop's invariant: `left` cells on from `at` as `cells` from the start.
-use Prim.Native.Nat.{◌-◌, ◌≤◌}
-use mathlib.Core.Path.{◌≡◌, refl, ◌∙◌}
+use mathlib.Core.Path.{refl, ◌∙◌}
 use native.Mathlib.Omega.{arith}
-use lib.ListN.{length}
 use borrow.Author.Rules.{rules}
-use Rattle.format.specs.Inner.Grid.{cell_span}
 use Rattle.format.proofs.CellWalkLaws.{cell-block}
 use Rattle.grid.proofs.past_cells.Goals as goal
 

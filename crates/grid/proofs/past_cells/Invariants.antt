@@ -1,11 +1,8 @@
 -- The loop's invariant: `left` cells on from `at` as `cells` from the start.
 use Prim.Native.Nat.{◌-◌, ◌≤◌}
-use mathlib.Core.Path.{◌≡◌, refl, ◌∙◌}
-use native.Mathlib.Omega.{arith}
+use mathlib.Core.Path.{◌≡◌}
 use lib.ListN.{length}
-use borrow.Author.Rules.{rules}
 use Rattle.format.specs.Inner.Grid.{cell_span}
-use Rattle.format.proofs.CellWalkLaws.{cell-block}
 use Rattle.grid.proofs.past_cells.Given as goal
 
 abbrev pub invariant-loop-at : goal.invariant-loop-at

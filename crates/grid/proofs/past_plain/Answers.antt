@@ -1,10 +1,7 @@
 -- The loop's invariant: the line that goes on at p ends where that at i does.
-use Prim.Native.Nat.{◌+◌, ◌-◌, ◌≤◌}
-use mathlib.Core.Path.{◌≡◌, refl, ◌∙◌}
+use mathlib.Core.Path.{refl, ◌∙◌}
 use native.Mathlib.Omega.{arith}
-use lib.ListN.{length}
 use borrow.Author.Rules.{rules}
-use Rattle.line_bytes.specs.Cells.{line_at}
 use Rattle.format.proofs.CellWalkLaws.{line-block}
 use Rattle.grid.proofs.past_plain.Goals as goal
 

@@ -1,10 +1,6 @@
 -- The = of the whole line is that of what is left of it.
-use Prim.Native.Nat.{◌-◌}
-use mathlib.Core.Path.{◌≡◌, refl, sym, ◌∙◌}
+use mathlib.Core.Path.{refl, sym, ◌∙◌}
 use native.Mathlib.Omega.{arith}
-use lib.ListN.{length}
-use borrow.Author.Rules.{rules}
-use Rattle.line_bytes.specs.Cells.{cell_end}
 use Rattle.line_bytes.proofs.CellLaws.{cell_end_in, cell_end-end}
 use Rattle.headers.proofs.HeaderLaws.{equals-end, equals_past}
 use Rattle.headers.proofs.equals_from.Goals as goal

@@ -1,4 +1,3 @@
-use borrow.Author.Rules.{rules}
 use Rattle.headers.proofs.HeaderLaws.{named-read, first-refused, first-named, first-none, first_good}
 use Rattle.headers.proofs.first_header.Goals as goal
 

@@ -1,7 +1,6 @@
 use mathlib.Core.Path.{refl}
 use borrow.Author.Tests.{eq-eqb, ne_eqb}
 use Rattle.headers.proofs.HeaderLaws.{kind_is}
-use borrow.Author.Rules.{rules}
 use Rattle.headers.proofs.header_kind.Goals as goal
 
 pub returns-then-kind-eq-MEASURED : goal.returns-then-kind-eq-MEASURED

@@ -3,7 +3,6 @@ use native.Mathlib.Omega.{arith}
 use Rattle.format.specs.Headers.{header_kind}
 use Rattle.format.specs.Inner.Names.{names_at}
 use Rattle.headers.proofs.HeaderLaws.{header_refused, named-read, header-named, name_is, header-known, header-value, header-good}
-use borrow.Author.Rules.{rules}
 use Rattle.headers.proofs.header_line.Goals as goal
 
 pub returns-then-h-ne0 : goal.returns-then-h-ne0

@@ -1,6 +1,5 @@
 use borrow.Author.Tests.{not-true, not-false}
 use Rattle.headers.proofs.HeaderLaws.{said-other, said_bad, said-many, said-good}
-use borrow.Author.Rules.{rules}
 use Rattle.headers.proofs.headers_said.Goals as goal
 
 pub returns-then-not-same : goal.returns-then-not-same

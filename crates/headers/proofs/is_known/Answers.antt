@@ -1,4 +1,3 @@
-use borrow.Author.Rules.{rules}
 use Rattle.headers.proofs.HeaderLaws.{known_is}
 use Rattle.headers.proofs.is_known.Goals as goal
 

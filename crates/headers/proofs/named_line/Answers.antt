@@ -1,7 +1,6 @@
 use mathlib.Core.Path.{sym, ◌∙◌}
 use borrow.Author.Tests.{not-true, not-false}
 use Rattle.headers.proofs.HeaderLaws.{header_refused, named_broken, named_none, named-long, named-wrong, named-good}
-use borrow.Author.Rules.{rules}
 use Rattle.headers.proofs.named_line.Goals as goal
 
 pub returns-then-l-ne0 : goal.returns-then-l-ne0

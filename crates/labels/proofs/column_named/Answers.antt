@@ -1,6 +1,5 @@
 use mathlib.Core.Path.{◌∙◌}
 use Rattle.format.proofs.LabelLaws.{named-refused, named_none, named_some}
-use borrow.Author.Rules.{rules}
 use Rattle.labels.proofs.column_named.Goals as goal
 
 pub returns-then-checked-ne0 : goal.returns-then-checked-ne0

@@ -1,5 +1,4 @@
 use Rattle.format.proofs.LabelLaws.{header_read}
-use borrow.Author.Rules.{rules}
 use Rattle.labels.proofs.header_at.Goals as goal
 
 pub returns : goal.returns

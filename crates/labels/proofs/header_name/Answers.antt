@@ -3,7 +3,6 @@ use Rattle.line_bytes.specs.Spaces.{IsPart}
 use Rattle.format.specs.declared.HeaderPlace.{HeaderPlace}
 use Rattle.format.specs.Labels.{header_refusal}
 use Rattle.format.proofs.LabelLaws.{header-fits}
-use borrow.Author.Rules.{rules}
 use Rattle.labels.proofs.header_name.Goals as goal
 
 pub part_at-requires : goal.part_at-requires

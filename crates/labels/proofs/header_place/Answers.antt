@@ -1,7 +1,6 @@
 use mathlib.Core.Path.{◌∙◌}
 use native.Mathlib.Omega.{arith}
 use Rattle.format.proofs.LabelLaws.{header_refused, header_zero, header-missed, header-equals, header-found}
-use borrow.Author.Rules.{rules}
 use Rattle.labels.proofs.header_place.Goals as goal
 
 pub returns-then-checked-ne0 : goal.returns-then-checked-ne0

@@ -3,7 +3,6 @@ use mathlib.Core.Logic.{⊎_elim}
 use native.Mathlib.Omega.{arith}
 use Rattle.columns.proofs.AskedLaws.{name-room}
 use Rattle.format.proofs.LabelLaws.{label-none, column-inside, label-some}
-use borrow.Author.Rules.{rules}
 use Rattle.labels.proofs.label_in.Goals as goal
 
 pub returns-then-column-columns : goal.returns-then-column-columns

@@ -1,6 +1,5 @@
 use mathlib.Core.Path.{◌∙◌}
 use Rattle.format.proofs.LabelLaws.{name-refused, name_label}
-use borrow.Author.Rules.{rules}
 use Rattle.labels.proofs.name_place.Goals as goal
 
 pub returns-then-checked-ne0 : goal.returns-then-checked-ne0

@@ -2,7 +2,6 @@ use Prim.Native.Nat.{ℕ}
 use mathlib.Core.Path.{refl, ap}
 use native.Mathlib.Nat.{add_comm, add-sub_cancel_left}
 use lib.ListN.{take, drop}
-use borrow.Author.Rules.{rules}
 use Rattle.labels.proofs.part_at.Goals as goal
 
 pub returns : goal.returns

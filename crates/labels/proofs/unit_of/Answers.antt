@@ -3,7 +3,6 @@ use Rattle.line_bytes.specs.Spaces.{IsPart}
 use Rattle.format.specs.declared.CellPlace.{CellPlace}
 use Rattle.format.specs.Labels.{place_refusal}
 use Rattle.format.proofs.LabelLaws.{unit-fits}
-use borrow.Author.Rules.{rules}
 use Rattle.labels.proofs.unit_of.Goals as goal
 
 pub part_at-requires : goal.part_at-requires

@@ -1,7 +1,6 @@
 use mathlib.Core.Path.{◌∙◌}
 use native.Mathlib.Omega.{arith}
 use Rattle.format.proofs.LabelLaws.{unit-refused, units-inside, unit_label}
-use borrow.Author.Rules.{rules}
 use Rattle.labels.proofs.unit_place.Goals as goal
 
 pub returns-then-checked-ne0 : goal.returns-then-checked-ne0

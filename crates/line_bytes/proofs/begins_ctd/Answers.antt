@@ -1,6 +1,5 @@
 use mathlib.Core.Path.{sym}
 use lib.Seq.{length-take-le}
-use borrow.Author.Rules.{rules}
 use Rattle.line_bytes.specs.Names.{begins_ctd}
 use Rattle.line_bytes.proofs.NameLaws.{ctd-short}
 use Rattle.line_bytes.proofs.begins_ctd.Goals as goal

@@ -1,8 +1,6 @@
-use Prim.Native.Nat.{◌≤◌, ◌-◌}
-use mathlib.Core.Path.{◌≡◌, ◌∙◌, sym, refl}
-use lib.ListN.{length, drop}
+use mathlib.Core.Path.{◌∙◌, sym, refl}
 use borrow.Author.Rules.{rules}
-use Rattle.line_bytes.specs.Lines.{first_from, is_control, control_at}
+use Rattle.line_bytes.specs.Lines.{is_control, control_at}
 use Rattle.line_bytes.proofs.LineLaws.{first-end, first-stop, first_step}
 use Rattle.line_bytes.proofs.first_control.Goals as goal
 

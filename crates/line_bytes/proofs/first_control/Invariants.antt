@@ -1,9 +1,7 @@
 use Prim.Native.Nat.{◌≤◌, ◌-◌}
-use mathlib.Core.Path.{◌≡◌, ◌∙◌, sym, refl}
+use mathlib.Core.Path.{◌≡◌}
 use lib.ListN.{length, drop}
-use borrow.Author.Rules.{rules}
 use Rattle.line_bytes.specs.Lines.{first_from, is_control, control_at}
-use Rattle.line_bytes.proofs.LineLaws.{first-end, first-stop, first_step}
 use Rattle.line_bytes.proofs.first_control.Given as goal
 
 abbrev pub invariant-loop-i : goal.invariant-loop-i

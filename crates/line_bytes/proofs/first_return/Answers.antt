@@ -1,9 +1,7 @@
-use Prim.Native.Nat.{◌≤◌, ◌-◌}
-use mathlib.Core.Path.{◌≡◌, ◌∙◌, sym, refl}
-use lib.ListN.{length, drop}
+use mathlib.Core.Path.{◌∙◌, sym, refl}
 use borrow.Author.Tests.{eq-eqb, ne_eqb}
 use borrow.Author.Rules.{rules}
-use Rattle.line_bytes.specs.Lines.{first_from, is_return, return_at}
+use Rattle.line_bytes.specs.Lines.{is_return, return_at}
 use Rattle.line_bytes.proofs.LineLaws.{first-end, first-stop, first_step}
 use Rattle.line_bytes.proofs.first_return.Goals as goal
 

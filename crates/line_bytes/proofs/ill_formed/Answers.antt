@@ -1,9 +1,6 @@
-use Prim.Native.Nat.{◌-◌}
-use mathlib.Core.Path.{◌≡◌, ◌∙◌, sym, refl}
+use mathlib.Core.Path.{◌∙◌, sym, refl}
 use native.Mathlib.Omega.{arith}
-use lib.ListN.{length, drop}
-use borrow.Author.Rules.{rules}
-use Rattle.line_bytes.specs.Lines.{ill_from, ill_formed}
+use Rattle.line_bytes.specs.Lines.{ill_formed}
 use Rattle.line_bytes.proofs.LineLaws.{character_at, character-room, ill-end, ill-stop, ill-step}
 use Rattle.line_bytes.proofs.ill_formed.Goals as goal
 

@@ -1,10 +1,7 @@
 use Prim.Native.Nat.{◌-◌}
-use mathlib.Core.Path.{◌≡◌, ◌∙◌, sym, refl}
-use native.Mathlib.Omega.{arith}
+use mathlib.Core.Path.{◌≡◌}
 use lib.ListN.{length, drop}
-use borrow.Author.Rules.{rules}
 use Rattle.line_bytes.specs.Lines.{ill_from, ill_formed}
-use Rattle.line_bytes.proofs.LineLaws.{character_at, character-room, ill-end, ill-stop, ill-step}
 use Rattle.line_bytes.proofs.ill_formed.Given as goal
 
 abbrev pub invariant-loop-i : goal.invariant-loop-i

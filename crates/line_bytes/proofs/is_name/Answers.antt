@@ -1,9 +1,6 @@
-use Prim.Native.Nat.{◌≤◌, ◌-◌}
-use mathlib.Core.Path.{◌≡◌, ◌∙◌, sym}
-use lib.ListN.{length, drop}
+use mathlib.Core.Path.{◌∙◌, sym}
 use borrow.Author.Tests.{not-true, not-false}
 use borrow.Author.Rules.{rules}
-use Rattle.line_bytes.specs.Bytes.{every}
 use Rattle.line_bytes.specs.Names.{name_byte}
 use Rattle.line_bytes.proofs.EveryLaws.{every-end, every-stop, every-step}
 use Rattle.line_bytes.proofs.NameLaws.{name_empty, name_by-bytes}

@@ -1,12 +1,8 @@
 use Prim.Native.Nat.{◌≤◌, ◌-◌}
-use mathlib.Core.Path.{◌≡◌, ◌∙◌, sym}
+use mathlib.Core.Path.{◌≡◌}
 use lib.ListN.{length, drop}
-use borrow.Author.Tests.{not-true, not-false}
-use borrow.Author.Rules.{rules}
 use Rattle.line_bytes.specs.Bytes.{every}
 use Rattle.line_bytes.specs.Names.{name_byte}
-use Rattle.line_bytes.proofs.EveryLaws.{every-end, every-stop, every-step}
-use Rattle.line_bytes.proofs.NameLaws.{name_empty, name_by-bytes}
 use Rattle.line_bytes.proofs.is_name.Given as goal
 
 abbrev pub invariant-loop-i : goal.invariant-loop-i

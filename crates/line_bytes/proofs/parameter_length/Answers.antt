@@ -1,5 +1,4 @@
 use mathlib.Core.Path.{◌∙◌, sym}
-use borrow.Author.Rules.{rules}
 use Rattle.line_bytes.proofs.NameLaws.{parameter-short, parameter_by_suffix}
 use Rattle.line_bytes.proofs.parameter_length.Goals as goal
 

@@ -1,9 +1,5 @@
-use Prim.Native.Nat.{◌≤◌, ◌-◌}
-use mathlib.Core.Path.{◌≡◌, ◌∙◌, sym}
+use mathlib.Core.Path.{◌∙◌, sym}
 use native.Mathlib.Omega.{arith}
-use lib.ListN.{length, drop}
-use borrow.Author.Rules.{rules}
-use Rattle.line_bytes.specs.Bytes.{equal}
 use Rattle.line_bytes.proofs.EqualLaws.{equal_lengths, equal-end, equal-stop, equal-step}
 use Rattle.line_bytes.proofs.same.Goals as goal
 

@@ -1,10 +1,7 @@
 use Prim.Native.Nat.{◌≤◌, ◌-◌}
-use mathlib.Core.Path.{◌≡◌, ◌∙◌, sym}
-use native.Mathlib.Omega.{arith}
+use mathlib.Core.Path.{◌≡◌}
 use lib.ListN.{length, drop}
-use borrow.Author.Rules.{rules}
 use Rattle.line_bytes.specs.Bytes.{equal}
-use Rattle.line_bytes.proofs.EqualLaws.{equal_lengths, equal-end, equal-stop, equal-step}
 use Rattle.line_bytes.proofs.same.Given as goal
 
 abbrev pub invariant-loop-i : goal.invariant-loop-i

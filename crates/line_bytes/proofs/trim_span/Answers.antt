@@ -1,4 +1,3 @@
-use borrow.Author.Rules.{rules}
 use Rattle.line_bytes.proofs.SpaceLaws.{span-before, span_past, span-within}
 use Rattle.line_bytes.proofs.trim_span.Goals as goal
 

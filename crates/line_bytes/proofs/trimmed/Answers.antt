@@ -3,7 +3,6 @@ use mathlib.Core.Path.{refl, ap}
 use native.Mathlib.Nat.{add_comm, add-sub_cancel_left}
 use native.Mathlib.Omega.{arith}
 use lib.ListN.{take, drop}
-use borrow.Author.Rules.{rules}
 use Rattle.line_bytes.proofs.SpaceLaws.{span_fits}
 use Rattle.line_bytes.proofs.trimmed.Goals as goal
 

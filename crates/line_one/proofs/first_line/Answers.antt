@@ -3,7 +3,6 @@ use native.Mathlib.Omega.{arith}
 use lib.Seq.{length-take-le}
 use Rattle.format.proofs.RunLaws.{line-ends}
 use Rattle.line_one.proofs.FirstLaws.{first-refused, first-none, first_broken, first_marked, first_neither, first_good}
-use borrow.Author.Rules.{rules}
 use Rattle.line_one.proofs.first_line.Goals as goal
 
 pub returns-then-s-eq0 : goal.returns-then-s-eq0

@@ -2,7 +2,6 @@ use mathlib.Core.Path.{sym}
 use native.Mathlib.Omega.{arith}
 use lib.Seq.{length-take-le}
 use Rattle.line_one.proofs.FirstLaws.{mark-short}
-use borrow.Author.Rules.{rules}
 use Rattle.line_one.proofs.is_mark.Goals as goal
 
 pub returns-then-line-lt3 : goal.returns-then-line-lt3

@@ -5,7 +5,6 @@ use Rattle.line_bytes.specs.Bytes.{bytes}
 use Rattle.line_bytes.specs.Cells.{line_at}
 use Rattle.format.specs.Places.{is_bottle, is_ctd}
 use Rattle.line_one.proofs.FirstLaws.{word-inside, word_is}
-use borrow.Author.Rules.{rules}
 use Rattle.line_one.proofs.kind_of_first.Goals as goal
 
 pub slice_bounds-same-end : goal.slice_bounds-same-end

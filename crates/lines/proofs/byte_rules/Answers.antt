@@ -3,7 +3,6 @@ use mathlib.Core.Bool.{true≢false}
 use native.Mathlib.Omega.{arith}
 use Rattle.line_bytes.proofs.LineLaws.{ill_formed-inside, return-inside, control-inside}
 use Rattle.lines.proofs.LinePassLaws.{bytes-ill_formed, bytes_return, bytes_control, bytes-clean}
-use borrow.Author.Rules.{rules}
 use Rattle.lines.proofs.byte_rules.Goals as goal
 
 pub byte_refused-requires : goal.byte_refused-requires

@@ -1,4 +1,3 @@
-use borrow.Author.Rules.{rules}
 use Rattle.lines.proofs.LinePassLaws.{line_past}
 use Rattle.lines.proofs.line_at.Goals as goal
 

@@ -1,6 +1,5 @@
 use native.Mathlib.Omega.{arith}
 use Rattle.lines.proofs.LinePassLaws.{line_plain}
-use borrow.Author.Rules.{rules}
 use Rattle.lines.proofs.line_inside.Goals as goal
 
 pub returns-then-s-o-eq10 : goal.returns-then-s-o-eq10

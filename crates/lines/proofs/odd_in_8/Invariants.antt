@@ -1,12 +1,9 @@
 use Rattle.line_bytes.specs.Inner.Scans.{Scan}
 use Rattle.line_bytes.specs.Inner.Lines.{is_plain}
-use Rattle.lines.proofs.LinePassLaws.{plain_more}
-use Prim.Native.Nat.{ℕ, ◌+◌, ◌-◌, ◌≤◌}
-use mathlib.Core.Path.{◌≡◌, subst}
+use Prim.Native.Nat.{◌-◌, ◌≤◌}
+use mathlib.Core.Path.{◌≡◌}
 use mathlib.Core.Bool.{false}
-use native.Mathlib.Omega.{arith}
 use lib.ListN.{length}
-use borrow.Author.Rules.{rules}
 use Rattle.lines.proofs.odd_in_8.Given as goal
 
 abbrev pub invariant-loop-k : goal.invariant-loop-k

@@ -1,6 +1,5 @@
 use mathlib.Core.Path.{◌∙◌}
 use Rattle.lines.proofs.LinePassLaws.{odd-long, odd_cut, odd-fed}
-use borrow.Author.Rules.{rules}
 use Rattle.lines.proofs.odd_line.Goals as goal
 
 pub returns-then-e-at-gt-MOST_BYTES : goal.returns-then-e-at-gt-MOST_BYTES

@@ -1,8 +1,5 @@
-use Prim.Native.Nat.{◌-◌, ◌≤◌}
 use native.Mathlib.Omega.{arith}
-use borrow.Author.Rules.{rules}
 use Rattle.line_bytes.specs.Inner.Scans.{Scan}
-use Rattle.line_bytes.specs.Inner.Lines.{is_plain}
 use Rattle.lines.proofs.LinePassLaws.{scan-join}
 use Rattle.lines.proofs.past_32.Goals as goal
 

@@ -4,7 +4,6 @@ use native.Mathlib.Nat.{add_comm, add-sub_cancel_left}
 use native.Mathlib.Omega.{arith}
 use lib.ListN.{take, drop}
 use Rattle.orders.proofs.ListLineLaws.{name-within}
-use borrow.Author.Rules.{rules}
 use Rattle.list_lines.proofs.name_in_line.Goals as goal
 
 pub overflow_add-result : goal.overflow_add-result

@@ -1,7 +1,6 @@
 use mathlib.Core.Path.{sym, ◌∙◌}
 use borrow.Author.Tests.{not-true, not-false}
 use Rattle.orders.proofs.ListLineLaws.{line_refused, line-by_fields}
-use borrow.Author.Rules.{rules}
 use Rattle.list_lines.proofs.read_list_line.Goals as goal
 
 pub returns-then-not-is_one_line : goal.returns-then-not-is_one_line

@@ -1,16 +1,13 @@
 -- What is left of the names, after the earlier ones, gives the fault of all; in the inner loop no earlier name is the same.
 use Prim.Native.Nat.{◌-◌, ◌≤◌}
-use mathlib.Core.Path.{◌≡◌, refl, sym, ◌∙◌}
-use native.Mathlib.Omega.{arith}
-use borrow.Author.Rules.{rules}
+use mathlib.Core.Path.{◌≡◌}
 use lib.ListN.{get_or, take}
 use mathlib.Core.List.{[]}
 use mathlib.Core.Bool.{false}
-use borrow.Author.Tests.{not-true, not-false}
 use Rattle.format.specs.declared.NameFault.TheVariants.{Clean}
 use Rattle.format.specs.Faults.{member}
 use Rattle.format.specs.Inner.Names.{names_at}
-use Rattle.format.proofs.NameLaws.{names-length, name-given, name-equal, name-good, member-none, member-more, member_at, fault_from, fault-end, fault_bad, fault_repeated, fault-step}
+use Rattle.format.proofs.NameLaws.{fault_from}
 use Rattle.names.proofs.fault_among.Given as goal
 
 abbrev pub invariant-loop-j : goal.invariant-loop-j

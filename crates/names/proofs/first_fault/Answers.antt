@@ -3,7 +3,6 @@ use mathlib.Core.Path.{◌∙◌, ap}
 use mathlib.Core.List.{List, []}
 use Rattle.format.specs.Inner.Names.{fault_in}
 use Rattle.format.proofs.NameLaws.{names-few}
-use borrow.Author.Rules.{rules}
 use Rattle.names.proofs.first_fault.Goals as goal
 
 pub returns : goal.returns

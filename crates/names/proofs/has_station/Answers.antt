@@ -1,7 +1,6 @@
 -- Each place found below n is a name that is there.
 use mathlib.Core.Path.{◌∙◌, ap}
 use native.Mathlib.Omega.{arith}
-use borrow.Author.Rules.{rules}
 use Rattle.format.specs.Faults.{has_all}
 use Rattle.format.specs.Headers.{station_names}
 use Rattle.format.specs.Inner.Names.{names_at}

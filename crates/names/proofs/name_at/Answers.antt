@@ -1,7 +1,6 @@
 use Prim.Native.Nat.{ℕ}
 use mathlib.Core.Path.{◌∙◌, ap}
 use Rattle.format.specs.Inner.Names.{text_in}
-use borrow.Author.Rules.{rules}
 use Rattle.names.proofs.name_at.Goals as goal
 
 pub returns : goal.returns

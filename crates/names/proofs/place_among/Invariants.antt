@@ -1,12 +1,9 @@
 -- What is left of the names gives the place, counted from the present name.
 use Prim.Native.Nat.{◌+◌, ◌-◌, ◌≤◌}
-use mathlib.Core.Path.{◌≡◌, ◌∙◌}
-use native.Mathlib.Omega.{arith}
-use borrow.Author.Rules.{rules}
+use mathlib.Core.Path.{◌≡◌}
 use lib.ListN.{drop}
 use Rattle.format.specs.Faults.{place_in}
 use Rattle.format.specs.Inner.Names.{names_at}
-use Rattle.format.proofs.NameLaws.{names-length, name-equal, place_end, place-stop, place-step}
 use Rattle.names.proofs.place_among.Given as goal
 
 abbrev pub invariant-loop-k : goal.invariant-loop-k

@@ -1,6 +1,5 @@
 use mathlib.Core.Path.{sym}
 use lib.ListN.{get_or-eq_default}
-use borrow.Author.Rules.{rules}
 use Rattle.names.proofs.place_at.Goals as goal
 
 pub returns-else-k-places : goal.returns-else-k-places

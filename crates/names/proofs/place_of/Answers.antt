@@ -1,7 +1,6 @@
 use mathlib.Core.Path.{◌∙◌, ap}
 use Rattle.format.specs.Faults.{place_in}
 use Rattle.format.proofs.NameLaws.{names-few}
-use borrow.Author.Rules.{rules}
 use Rattle.names.proofs.place_of.Goals as goal
 
 pub returns : goal.returns

@@ -1,4 +1,3 @@
-use borrow.Author.Rules.{rules}
 use Rattle.next_cell.proofs.StopLaws.{end-inside, after_any, after_solid}
 use Rattle.next_cell.proofs.cell_after.Goals as goal
 

@@ -1,6 +1,5 @@
 use mathlib.Core.Path.{sym, ◌∙◌}
 use native.Mathlib.Omega.{arith}
-use borrow.Author.Rules.{rules}
 use Rattle.format.proofs.GridWalkLaws.{end_past}
 use Rattle.next_cell.proofs.cell_stop.Goals as goal
 

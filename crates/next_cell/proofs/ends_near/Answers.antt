@@ -1,10 +1,8 @@
 -- The loop's invariant: where no byte was found that ends the cell, it ends where that k bytes behind i does.
-use Prim.Native.Nat.{ℕ, ◌+◌, ◌-◌, ◌≤◌}
+use Prim.Native.Nat.{ℕ, ◌+◌}
 use mathlib.Core.Path.{◌≡◌, sym, ap, ◌∙◌}
-use mathlib.Core.Bool.{false}
 use native.Mathlib.Nat.{add-zero}
 use native.Mathlib.Omega.{arith}
-use borrow.Author.Rules.{rules}
 use Rattle.line_bytes.specs.Cells.{cell_end}
 use Rattle.next_cell.proofs.StopLaws.{goes_on_lem}
 use Rattle.next_cell.proofs.ends_near.Goals as goal

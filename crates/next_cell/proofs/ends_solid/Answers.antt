@@ -2,7 +2,6 @@ use mathlib.Core.Path.{sym}
 use mathlib.Core.Bool.{true≢false}
 use native.Mathlib.Omega.{arith}
 use borrow.Author.Tests.{not-true, eqb-false}
-use borrow.Author.Rules.{rules}
 use Rattle.next_cell.proofs.ends_solid.Goals as goal
 
 pub returns-then-stop-i : goal.returns-then-stop-i

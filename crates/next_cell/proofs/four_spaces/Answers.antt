@@ -1,5 +1,4 @@
 use native.Mathlib.Omega.{arith}
-use borrow.Author.Rules.{rules}
 use Rattle.next_cell.proofs.StopLaws.{spaces_four}
 use Rattle.next_cell.proofs.four_spaces.Goals as goal
 

@@ -1,5 +1,4 @@
 use native.Mathlib.Omega.{arith}
-use borrow.Author.Rules.{rules}
 use Rattle.next_cell.proofs.StopLaws.{spaces_one}
 use Rattle.next_cell.proofs.one_space.Goals as goal
 

@@ -1,8 +1,5 @@
 -- The loop's invariant: from i up to p all are spaces; so p has not come to the end of the cell, whose last byte is none.
-use Prim.Native.Nat.{◌-◌, ◌≤◌, ◌<◌}
 use native.Mathlib.Omega.{arith}
-use borrow.Author.Rules.{rules}
-use Rattle.next_cell.specs.Inner.Spaces.{Spaces}
 use Rattle.next_cell.proofs.StopLaws.{spaces-none, spaces_one, spaces-on, spaces-before, front_past}
 use Rattle.next_cell.proofs.past_spaces.Goals as goal
 use Rattle.next_cell.proofs.past_spaces.Goals.{then-s-i-ge7, else-s-i-ge7}
@@ -12,8 +9,8 @@ loop-p-init c =
     let s = c.args.s.now in
     elim c.if-s-i-ge7.branch [
       | then-s-i-ge7 w ↦
-        let x = spaces-on s _ _ _ (spaces-on s _ _ _ w.four_spaces-p.ensures.1 w.two_spaces-p.ensures.1) w.one_space-p.ensures.1 in
-        rw w.p-is (omega arith, spaces-before s _ _ _ x c.requires.0 c.requires.2, x)
+          let x = spaces-on s _ _ _ (spaces-on s _ _ _ w.four_spaces-p.ensures.1 w.two_spaces-p.ensures.1) w.one_space-p.ensures.1 in
+          rw w.p-is (omega arith, spaces-before s _ _ _ x c.requires.0 c.requires.2, x)
       | else-s-i-ge7 w ↦ rw w.p-is (omega arith, c.requires.0, spaces-none s _)
     ]
 

@@ -1,10 +1,6 @@
 -- The loop's invariant: from i up to p all are spaces; so p has not come to the end of the cell, whose last byte is none.
 use Prim.Native.Nat.{◌-◌, ◌≤◌, ◌<◌}
-use mathlib.Core.Logic.{⊎_elim}
-use native.Mathlib.Omega.{arith}
-use borrow.Author.Rules.{rules}
 use Rattle.next_cell.specs.Inner.Spaces.{Spaces}
-use Rattle.next_cell.proofs.StopLaws.{spaces-none, spaces_one, spaces-on, spaces-before, front_past}
 use Rattle.next_cell.proofs.past_spaces.Given as goal
 
 abbrev pub invariant-loop-p : goal.invariant-loop-p

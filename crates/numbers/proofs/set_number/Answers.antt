@@ -1,6 +1,5 @@
 use mathlib.Core.Path.{sym, ◌∙◌}
 use native.Mathlib.Omega.{arith}
-use borrow.Author.Rules.{rules}
 use borrow.Author.Tests.{not-true, not-false}
 use Rattle.numbers.proofs.PatchLaws.{number-none, number-kept, number_in_lem, number_is}
 use Rattle.numbers.proofs.PutLaws.{cell_room, cell_left, cell_set}

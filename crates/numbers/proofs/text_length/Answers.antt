@@ -1,4 +1,3 @@
-use borrow.Author.Rules.{rules}
 use Rattle.numbers.proofs.TextLaws.{length_none, length_some}
 use Rattle.numbers.proofs.text_length.Goals as goal
 

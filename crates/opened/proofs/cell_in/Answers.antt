@@ -1,5 +1,4 @@
 use native.Mathlib.Omega.{arith}
-use borrow.Author.Rules.{rules}
 use Rattle.opened.proofs.PartLaws.{part_room, cell-none, cell-some}
 use Rattle.opened.proofs.cell_in.Goals as goal
 

@@ -1,5 +1,4 @@
 use mathlib.Core.Path.{ap}
-use borrow.Author.Rules.{rules}
 use Rattle.format.specs.declared.DecimalStep.{DecimalStep}
 use Rattle.opened.proofs.decimal_in.Goals as goal
 

@@ -1,4 +1,3 @@
-use borrow.Author.Rules.{rules}
 use Rattle.opened.proofs.PartLaws.{decimal-none, decimal-some}
 use Rattle.opened.proofs.decimal_step.Goals as goal
 

@@ -1,5 +1,4 @@
 use mathlib.Core.Path.{ap}
-use borrow.Author.Rules.{rules}
 use Rattle.format.specs.declared.FlagStep.{FlagStep}
 use Rattle.opened.proofs.flag_in.Goals as goal
 

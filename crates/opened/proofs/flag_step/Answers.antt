@@ -1,4 +1,3 @@
-use borrow.Author.Rules.{rules}
 use Rattle.opened.proofs.PartLaws.{flag-none, flag-some, flag-other}
 use Rattle.opened.proofs.flag_step.Goals as goal
 

@@ -1,5 +1,4 @@
 use mathlib.Core.Path.{◌∙◌}
-use borrow.Author.Rules.{rules}
 use Rattle.format.proofs.ByPlaceLaws.{start-after}
 use Rattle.opened.proofs.line_after.Goals as goal
 

@@ -1,6 +1,5 @@
 use Prim.Native.Nat.{◌≤◌}
 use native.Mathlib.Omega.{arith}
-use borrow.Author.Rules.{rules}
 use Rattle.format.proofs.ByPlaceLaws.{lacks-first, lacks-feed, lacks-cell, span_lacks, span_has, span-feed}
 use Rattle.opened.proofs.PartLaws.{part_none, part-found}
 use Rattle.opened.proofs.part_in.Goals as goal

@@ -1,5 +1,4 @@
 use Rattle.profiles.proofs.RecordLaws.{record-refused, record-given}
-use borrow.Author.Rules.{rules}
 use Rattle.profiles.proofs.profile.Goals as goal
 
 pub returns-then-p-ne0 : goal.returns-then-p-ne0

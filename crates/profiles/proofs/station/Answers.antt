@@ -5,7 +5,6 @@ use native.Mathlib.Omega.{arith}
 use lib.ListN.{take, drop}
 use Rattle.format.specs.Records.{stationed_of}
 use Rattle.profiles.proofs.RecordLaws.{answer-place, answer-refusal, answer-room}
-use borrow.Author.Rules.{rules}
 use Rattle.profiles.proofs.station.Goals as goal
 
 pub overflow_add-result : goal.overflow_add-result

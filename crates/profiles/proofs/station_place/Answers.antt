@@ -1,7 +1,6 @@
 use mathlib.Core.Path.{◌∙◌}
 use native.Mathlib.Omega.{arith}
 use Rattle.profiles.proofs.RecordLaws.{place-refused, place_none, place-room, place_found}
-use borrow.Author.Rules.{rules}
 use Rattle.profiles.proofs.station_place.Goals as goal
 
 pub returns-then-p-ne0 : goal.returns-then-p-ne0

@@ -1,4 +1,3 @@
-use borrow.Author.Rules.{rules}
 use Rattle.rows.proofs.RowLaws.{cells-inside, cells-few, by-refused, by_odd, by_whole}
 use Rattle.rows.proofs.read_row.Goals as goal
 

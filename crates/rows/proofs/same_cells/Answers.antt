@@ -1,4 +1,3 @@
-use borrow.Author.Rules.{rules}
 use Rattle.rows.proofs.KeyLaws.{spans_empty, texts-equal}
 use Rattle.rows.proofs.same_cells.Goals as goal
 

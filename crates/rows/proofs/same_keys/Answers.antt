@@ -1,4 +1,3 @@
-use borrow.Author.Rules.{rules}
 use Rattle.format.specs.Inner.Rows.{key_at}
 use Rattle.rows.proofs.KeyLaws.{key-castno, key-stnnbr, key-expocode}
 use Rattle.rows.proofs.same_keys.Goals as goal

@@ -1,6 +1,5 @@
 -- A span that does not fit has the empty text.
 use native.Mathlib.Omega.{arith}
-use borrow.Author.Rules.{rules}
 use Rattle.rows.proofs.KeyLaws.{span_none, span-some}
 use Rattle.rows.proofs.span_text.Goals as goal
 

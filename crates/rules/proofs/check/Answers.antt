@@ -1,7 +1,6 @@
 -- The first part of what opening the file answers.
 use Rattle.format.specs.declared.Opened.{Opened}
 use mathlib.Core.Path.{ap, ◌∙◌}
-use borrow.Author.Rules.{rules}
 use Rattle.format.proofs.OpenedLaws.{opened_checked}
 use Rattle.rules.proofs.check.Goals as goal
 

@@ -1,5 +1,4 @@
 -- The check's answer and the places, of a file that is refused, of a bottle file and of a CTD file.
-use borrow.Author.Rules.{rules}
 use Rattle.rules.proofs.AnswerLaws.{answer-refused, answer-bottle, answer-ctd}
 use Rattle.rules.proofs.open_file.Goals as goal
 

@@ -1,8 +1,5 @@
-use Prim.Native.Nat.{◌≤◌, ◌-◌, ◌/◌}
-use mathlib.Core.Path.{◌≡◌, sym, ◌∙◌}
-use lib.ListN.{length}
+use mathlib.Core.Path.{sym, ◌∙◌}
 use borrow.Author.Rules.{rules}
-use Rattle.text.specs.Catalogue.{search_from, look_up}
 use Rattle.text.proofs.EntryLaws.{search-start, search-end, search-stop, search-step, kind-nowhere, kind_at_lem, kind_past}
 use Rattle.text.proofs.kind_of.Goals as goal
 

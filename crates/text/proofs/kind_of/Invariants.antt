@@ -1,9 +1,7 @@
 use Prim.Native.Nat.{◌≤◌, ◌-◌, ◌/◌}
-use mathlib.Core.Path.{◌≡◌, sym, ◌∙◌}
+use mathlib.Core.Path.{◌≡◌}
 use lib.ListN.{length}
-use borrow.Author.Rules.{rules}
 use Rattle.text.specs.Catalogue.{search_from, look_up}
-use Rattle.text.proofs.EntryLaws.{search-start, search-end, search-stop, search-step, kind-nowhere, kind_at_lem, kind_past}
 use Rattle.text.proofs.kind_of.Given as goal
 
 abbrev pub invariant-loop-k : goal.invariant-loop-k

@@ -1,4 +1,3 @@
-use borrow.Author.Rules.{rules}
 use Rattle.text.specs.Reading.{reading_at}
 use Rattle.text.proofs.read_decimal.Goals as goal
 

@@ -1,9 +1,5 @@
-use Prim.Native.Nat.{◌-◌}
-use mathlib.Core.Path.{◌≡◌, ◌∙◌, sym, refl}
-use borrow.Author.Rules.{rules}
-use Rattle.utf8.specs.Syntax.{character_in}
-use Rattle.utf8.specs.Rows.{rows_in}
-use Rattle.utf8.proofs.RowLaws.{character_from, rows_taken, rows_on, rows_none}
+use mathlib.Core.Path.{◌∙◌, sym, refl}
+use Rattle.utf8.proofs.RowLaws.{rows_taken, rows_on, rows_none}
 use Rattle.utf8.proofs.character.Goals as goal
 
 pub loop-k-init : goal.loop-k-init

@@ -1,9 +1,8 @@
 use Prim.Native.Nat.{◌-◌}
-use mathlib.Core.Path.{◌≡◌, ◌∙◌, sym, refl}
-use borrow.Author.Rules.{rules}
+use mathlib.Core.Path.{◌≡◌}
 use Rattle.utf8.specs.Syntax.{character_in}
 use Rattle.utf8.specs.Rows.{rows_in}
-use Rattle.utf8.proofs.RowLaws.{character_from, rows_taken, rows_on, rows_none}
+use Rattle.utf8.proofs.RowLaws.{character_from}
 use Rattle.utf8.proofs.character.Given as goal
 
 abbrev pub invariant-loop-k : goal.invariant-loop-k

@@ -1,6 +1,5 @@
 use native.Mathlib.Omega.{arith}
 use Rattle.utf8.proofs.RowLaws.{row-length}
-use borrow.Author.Rules.{rules}
 use Rattle.utf8.proofs.length_of.Goals as goal
 
 pub returns-then-row-lt-MOST_RANGES : goal.returns-then-row-lt-MOST_RANGES

@@ -1,12 +1,8 @@
-use Prim.Native.Nat.{◌-◌, ◌≤◌}
-use mathlib.Core.Path.{◌≡◌, ◌∙◌, sym}
+use mathlib.Core.Path.{◌∙◌, sym}
 use borrow.Author.Tests.{not-true, not-false}
 use native.Mathlib.Omega.{arith}
-use lib.ListN.{length}
-use borrow.Author.Rules.{rules}
-use Rattle.utf8.specs.Syntax.{takes}
 use Rattle.utf8.specs.Rows.{row_in}
-use Rattle.utf8.proofs.RowLaws.{row-length, takes_first, takes-short, takes_from, takes_out, takes-on, takes_all}
+use Rattle.utf8.proofs.RowLaws.{row-length, takes_first, takes-short, takes_out, takes-on, takes_all}
 use Rattle.utf8.proofs.takes.Goals as goal
 
 pub returns-then-text-n : goal.returns-then-text-n

@@ -1,4 +1,3 @@
-use borrow.Author.Rules.{rules}
 use Rattle.verdicts.proofs.SignLaws.{signed_large, signed_minus, signed_plain, minus-fits}
 use Rattle.verdicts.proofs.signed_size.Goals as goal
 

@@ -1,5 +1,4 @@
 -- The three tests of `stops_at`, in the code's order.
-use borrow.Author.Rules.{rules}
 use borrow.Author.Tests.{le-leb, lt-leb, lt-ltb, le-ltb}
 use Rattle.verdicts.specs.Judge.{stops_at}
 use Rattle.verdicts.proofs.stops.Goals as goal

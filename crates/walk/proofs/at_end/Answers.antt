@@ -1,4 +1,3 @@
-use borrow.Author.Rules.{rules}
 use Rattle.walk.proofs.at_end.Goals as goal
 
 pub returns : goal.returns

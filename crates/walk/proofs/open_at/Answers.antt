@@ -3,7 +3,6 @@ use Rattle.line_bytes.specs.Spaces.{trim_span}
 use Rattle.cursors.specs.declared.Cursor.{Cursor}
 use Rattle.cursors.specs.Walk.{ended, on_cell}
 use Rattle.cursors.proofs.StepLaws.{open-refused, open-accepted}
-use borrow.Author.Rules.{rules}
 use Rattle.walk.proofs.open_at.Goals as goal
 
 pub returns-then-c-ne0 : goal.returns-then-c-ne0

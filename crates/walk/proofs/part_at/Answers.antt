@@ -4,7 +4,6 @@ use native.Mathlib.Nat.{add_comm, add-sub_cancel_left}
 use native.Mathlib.Omega.{arith}
 use lib.ListN.{take, drop}
 use Rattle.cursors.proofs.StepLaws.{part_past, part-long, part-fits}
-use borrow.Author.Rules.{rules}
 use Rattle.walk.proofs.part_at.Goals as goal
 
 pub returns-then-file-start : goal.returns-then-file-start

@@ -2,7 +2,6 @@ use mathlib.Core.Path.{sym, ◌∙◌}
 use native.Mathlib.Omega.{arith}
 use Rattle.cursors.specs.Walk.{on_cell}
 use Rattle.cursors.proofs.StepLaws.{step-over, step-inside, step_right, step_down, step-last}
-use borrow.Author.Rules.{rules}
 use Rattle.walk.proofs.step_at.Goals as goal
 use Rattle.walk.proofs.step_at.Goals.{then-cursor, else-cursor+else-cursor-2}
 

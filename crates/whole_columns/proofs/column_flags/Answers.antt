@@ -1,4 +1,3 @@
-use borrow.Author.Rules.{rules}
 use Rattle.whole_columns.proofs.OpeningLaws.{flags-answer}
 use Rattle.whole_columns.proofs.FillLaws.{kept}
 use Rattle.whole_columns.proofs.column_flags.Goals as goal

@@ -1,4 +1,3 @@
-use borrow.Author.Rules.{rules}
 use Rattle.whole_columns.proofs.OpeningLaws.{values-answer, values-room}
 use Rattle.whole_columns.proofs.FillLaws.{kept}
 use Rattle.whole_columns.proofs.column_values.Goals as goal

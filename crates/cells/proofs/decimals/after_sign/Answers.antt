@@ -1,5 +1,4 @@
 use native.Mathlib.Omega.{arith}
-use borrow.Author.Rules.{rules}
 use Rattle.cells.proofs.decimals.after_sign.Goals as goal
 
 pub returns-then-b : goal.returns-then-b

@@ -1,6 +1,5 @@
 -- The spaces after the text, and what stands there.
 use mathlib.Core.Path.{refl}
-use borrow.Author.Rules.{rules}
 use Rattle.line_bytes.proofs.CellLaws.{stop_moved}
 use Rattle.cells.proofs.ScanLaws.{closed-good, closed-wrong}
 use Rattle.cells.proofs.decimals.close.Goals as goal

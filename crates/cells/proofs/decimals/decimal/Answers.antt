@@ -1,7 +1,6 @@
 -- The spaces before the cell, its sign, and the number after it.
 use Rattle.verdicts.specs.Decimals.{decimal_of}
 use native.Mathlib.Omega.{arith}
-use borrow.Author.Rules.{rules}
 use Rattle.line_bytes.proofs.CellLaws.{stop_moved, stop-inside}
 use Rattle.cells.proofs.ScanLaws.{judged-blank}
 use Rattle.cells.proofs.DecimalLaws.{decimal-signed}

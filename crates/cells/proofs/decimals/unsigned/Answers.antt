@@ -1,7 +1,6 @@
 -- The digits before the point, and those after it: a return for each way in which they end.
 use Prim.Native.Nat.{◌*◌, ◌^◌, ◌<◌}
 use native.Mathlib.Omega.{arith}
-use borrow.Author.Rules.{rules}
 use Rattle.line_bytes.proofs.CellLaws.{stop_moved, stop-short}
 use Rattle.cells.proofs.ScanLaws.{digits_small, digits_scaled}
 use Rattle.cells.proofs.DecimalLaws.{unsigned-wide, unsigned-none, unsigned-whole, unsigned_fine, unsigned-point, unsigned-good}

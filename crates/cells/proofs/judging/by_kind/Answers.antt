@@ -1,5 +1,4 @@
 use native.Mathlib.Omega.{arith}
-use borrow.Author.Rules.{rules}
 use Rattle.verdicts.proofs.JudgeLaws.{kind-decimal, kind-flag, kind-key, kind-castno, kind-date, kind-time, kind-free}
 use Rattle.cells.proofs.judging.by_kind.Goals as goal
 

@@ -1,5 +1,4 @@
 use native.Mathlib.Omega.{arith}
-use borrow.Author.Rules.{rules}
 use Rattle.line_bytes.proofs.CellLaws.{stop_moved}
 use Rattle.cells.proofs.JudgingLaws.{clock-other, clock-held}
 use Rattle.cells.proofs.judging.clock.Goals as goal

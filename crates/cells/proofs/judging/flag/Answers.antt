@@ -3,7 +3,6 @@ use Prim.Native.Nat.{ℕ}
 use Rattle.verdicts.specs.Judge.{in_flags, whole_of}
 use native.Mathlib.Omega.{arith}
 use lib.ListN.{get_or}
-use borrow.Author.Rules.{rules}
 use Rattle.line_bytes.proofs.CellLaws.{stop_moved, stop-inside}
 use Rattle.line_bytes.proofs.DigitLaws.{digit_range}
 use Rattle.cells.proofs.ScanLaws.{judged-blank, judged_solid}

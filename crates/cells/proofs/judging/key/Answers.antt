@@ -1,5 +1,4 @@
 use Rattle.verdicts.specs.Judge.{key_text_of}
-use borrow.Author.Rules.{rules}
 use Rattle.line_bytes.proofs.CellLaws.{stop_moved}
 use Rattle.cells.proofs.ScanLaws.{judged-blank, judged_solid}
 use Rattle.cells.proofs.JudgingLaws.{key_word}

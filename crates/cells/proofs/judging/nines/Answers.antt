@@ -1,5 +1,4 @@
 use native.Mathlib.Omega.{arith}
-use borrow.Author.Rules.{rules}
 use Rattle.cells.proofs.JudgingLaws.{nine-next, nines_two, nines_three, time-first, time_second, time_third, time_nines}
 use Rattle.cells.proofs.judging.nines.Goals as goal
 

@@ -1,6 +1,5 @@
 use Rattle.verdicts.specs.Judge.{time_of}
 use native.Mathlib.Omega.{arith}
-use borrow.Author.Rules.{rules}
 use Rattle.line_bytes.proofs.CellLaws.{stop_moved, stop-inside}
 use Rattle.cells.proofs.ScanLaws.{judged-blank, judged_solid}
 use Rattle.cells.proofs.JudgingLaws.{time_minus_sign, time_of_day}

@@ -1,6 +1,5 @@
 use Rattle.verdicts.specs.Judge.{whole_of}
 use native.Mathlib.Omega.{arith}
-use borrow.Author.Rules.{rules}
 use Rattle.line_bytes.proofs.CellLaws.{stop_moved}
 use Rattle.cells.proofs.ScanLaws.{judged-blank, judged_solid}
 use Rattle.cells.proofs.JudgingLaws.{whole_wide, whole-none, whole-good}

@@ -1,14 +1,12 @@
 -- What is left to judge, from the present cell and counts, gives what the whole line gives.
-use Prim.Native.Nat.{ℕ, ◌+◌, ◌-◌, ◌≤◌}
+use Prim.Native.Nat.{ℕ, ◌+◌}
 use mathlib.Core.Path.{◌≡◌, refl, sym, ◌∙◌, ap, subst}
 use native.Mathlib.Omega.{arith}
-use lib.ListN.{length, get_or}
-use borrow.Author.Rules.{rules}
-use Rattle.line_bytes.specs.Cells.{pieces, line_at, cell_end}
-use Rattle.verdicts.specs.Rows.{no_keys, cells_from}
+use lib.ListN.{get_or}
+use Rattle.line_bytes.specs.Cells.{cell_end}
 use Rattle.verdicts.specs.Inner.Notes.{keys_in}
 use Rattle.line_bytes.proofs.CellLaws.{stop_moved, cell_end-within, stop-short}
-use Rattle.verdicts.proofs.RowLaws.{noted_in_lem, share_most, left, left-none, left-refused, left_ended, left_goes, ends_at}
+use Rattle.verdicts.proofs.RowLaws.{noted_in_lem, share_most, left-none, left-refused, left_ended, left_goes, ends_at}
 use Rattle.cells.proofs.rows.from_left.Goals as goal
 
 pub loop-k-init : goal.loop-k-init

@@ -1,14 +1,11 @@
 -- What is left to judge, from the present cell and counts, gives what the whole line gives.
-use Prim.Native.Nat.{ℕ, ◌+◌, ◌-◌, ◌≤◌}
-use mathlib.Core.Path.{◌≡◌, refl, sym, ◌∙◌, ap, subst}
-use native.Mathlib.Omega.{arith}
-use lib.ListN.{length, get_or}
-use borrow.Author.Rules.{rules}
-use Rattle.line_bytes.specs.Cells.{pieces, line_at, cell_end}
+use Prim.Native.Nat.{◌-◌, ◌≤◌}
+use mathlib.Core.Path.{◌≡◌}
+use lib.ListN.{length}
+use Rattle.line_bytes.specs.Cells.{pieces, line_at}
 use Rattle.verdicts.specs.Rows.{no_keys, cells_from}
 use Rattle.verdicts.specs.Inner.Notes.{keys_in}
-use Rattle.line_bytes.proofs.CellLaws.{stop_moved, cell_end-within, stop-short}
-use Rattle.verdicts.proofs.RowLaws.{noted_in_lem, share_most, left, left-none, left-refused, left_ended, left_goes, ends_at}
+use Rattle.verdicts.proofs.RowLaws.{left}
 use Rattle.cells.proofs.rows.from_left.Given as goal
 
 abbrev pub invariant-loop-k : goal.invariant-loop-k

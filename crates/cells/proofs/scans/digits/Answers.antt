@@ -1,5 +1,5 @@
 -- The loop's invariant: the bytes passed are digits, which make v0 into v. No product wraps, since at most ten digits follow a number below 10^9.
-use Prim.Native.Nat.{◌+◌, ◌-◌, ◌≤◌}
+use Prim.Native.Nat.{◌+◌, ◌-◌}
 use mathlib.Core.Path.{◌≡◌}
 use native.Mathlib.Omega.{arith}
 use lib.ListN.{get_or}

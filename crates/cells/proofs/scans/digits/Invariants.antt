@@ -1,13 +1,6 @@
 -- The loop's invariant: the bytes passed are digits, which make v0 into v. No product wraps, since at most ten digits follow a number below 10^9.
-use Prim.Native.Nat.{◌+◌, ◌-◌, ◌≤◌}
-use mathlib.Core.Path.{◌≡◌}
-use native.Mathlib.Omega.{arith}
-use lib.ListN.{get_or}
-use borrow.Author.Rules.{rules}
+use Prim.Native.Nat.{◌-◌, ◌≤◌}
 use Rattle.cells.specs.Inner.Runs.{Written}
-use Rattle.line_bytes.proofs.CellLaws.{stop_moved, stop-short}
-use Rattle.line_bytes.proofs.DigitLaws.{digit_yes, digit_low, digit-high}
-use Rattle.cells.proofs.ScanLaws.{digits-room}
 use Rattle.cells.proofs.scans.digits.Given as goal
 
 abbrev pub invariant-loop-p : goal.invariant-loop-p

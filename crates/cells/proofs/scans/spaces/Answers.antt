@@ -1,9 +1,7 @@
 -- The loop's invariant: every byte passed is a space. The line feed at e ends it.
-use Prim.Native.Nat.{◌-◌, ◌≤◌}
 use native.Mathlib.Omega.{arith}
 use borrow.Author.Rules.{rules}
 use borrow.Author.Tests.{eq-eqb, ne_eqb}
-use Rattle.line_bytes.specs.Bytes.{is_space}
 use Rattle.line_bytes.specs.Inner.Scans.{Scan}
 use Rattle.line_bytes.proofs.CellLaws.{stop_moved, stop-short}
 use Rattle.cells.proofs.scans.spaces.Goals as goal

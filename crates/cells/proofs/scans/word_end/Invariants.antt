@@ -1,11 +1,7 @@
 -- The loop's invariant: every byte passed is one of a word.
 use Prim.Native.Nat.{◌-◌, ◌≤◌}
-use native.Mathlib.Omega.{arith}
-use borrow.Author.Rules.{rules}
 use Rattle.line_bytes.specs.Inner.Scans.{Scan}
 use Rattle.cells.specs.Inner.Runs.{word_byte}
-use Rattle.line_bytes.proofs.CellLaws.{stop_moved}
-use Rattle.cells.proofs.ScanLaws.{word-short}
 use Rattle.cells.proofs.scans.word_end.Given as goal
 
 abbrev pub invariant-loop-i : goal.invariant-loop-i

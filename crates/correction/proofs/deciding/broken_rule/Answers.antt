@@ -1,5 +1,4 @@
 use mathlib.Core.Path.{sym, ◌∙◌}
-use borrow.Author.Rules.{rules}
 use Rattle.correction.proofs.DecideLaws.{number-few, text_longer, text-fits}
 use Rattle.correction.proofs.FirstNumberLaws.{number-here, number-later, number-none}
 use Rattle.correction.proofs.deciding.broken_rule.Goals as goal

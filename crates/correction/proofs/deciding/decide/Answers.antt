@@ -1,4 +1,3 @@
-use borrow.Author.Rules.{rules}
 use Rattle.correction.proofs.CorrectLaws.{located_here, decides-refused, decides-here}
 use Rattle.correction.proofs.deciding.decide.Goals as goal
 

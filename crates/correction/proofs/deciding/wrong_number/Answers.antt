@@ -1,4 +1,3 @@
-use borrow.Author.Rules.{rules}
 use Rattle.numbers.proofs.PutLaws.{place-some}
 use Rattle.correction.proofs.DecideLaws.{number_fine, number_large, number_exact}
 use Rattle.correction.proofs.deciding.wrong_number.Goals as goal

@@ -1,4 +1,3 @@
-use borrow.Author.Rules.{rules}
 use Rattle.numbers.proofs.PatchLaws.{cell-after}
 use Rattle.correction.proofs.WriteLaws.{number-set, flag-set, filled_both, filled-value}
 use Rattle.correction.proofs.writing.write.Goals as goal

@@ -1,11 +1,7 @@
 use Prim.Native.Nat.{◌≤◌}
-use mathlib.Core.Path.{◌≡◌, ◌∙◌, refl}
-use native.Mathlib.Nat.{le_trans}
-use native.Mathlib.Omega.{arith}
+use mathlib.Core.Path.{◌≡◌}
 use lib.Seq.{slice}
-use borrow.Author.Rules.{rules}
 use Rattle.line_bytes.specs.Spaces.{trim_end}
-use Rattle.line_bytes.proofs.SpaceLaws.{trim_end-stop, trim_end-step, trim_end-none, span-end}
 use Rattle.line_bytes.proofs.spaces.end_of.Given as goal
 
 abbrev pub invariant-loop-j : goal.invariant-loop-j

@@ -1,8 +1,5 @@
-use Prim.Native.Nat.{◌≤◌, ◌-◌}
-use mathlib.Core.Path.{◌≡◌, ◌∙◌, refl}
-use lib.Seq.{slice}
+use mathlib.Core.Path.{◌∙◌, refl}
 use borrow.Author.Rules.{rules}
-use Rattle.line_bytes.specs.Spaces.{trim_front}
 use Rattle.line_bytes.proofs.SpaceLaws.{trim_front-stop, trim_front-step, trim_front-none}
 use Rattle.line_bytes.proofs.spaces.start_of.Goals as goal
 

@@ -1,9 +1,7 @@
 use Prim.Native.Nat.{◌≤◌, ◌-◌}
-use mathlib.Core.Path.{◌≡◌, ◌∙◌, refl}
+use mathlib.Core.Path.{◌≡◌}
 use lib.Seq.{slice}
-use borrow.Author.Rules.{rules}
 use Rattle.line_bytes.specs.Spaces.{trim_front}
-use Rattle.line_bytes.proofs.SpaceLaws.{trim_front-stop, trim_front-step, trim_front-none}
 use Rattle.line_bytes.proofs.spaces.start_of.Given as goal
 
 abbrev pub invariant-loop-i : goal.invariant-loop-i

@@ -1,5 +1,4 @@
 use borrow.Author.Tests.{lt-ltb, le-ltb}
-use borrow.Author.Rules.{rules}
 use Rattle.list_lines.proofs.fields.after.Goals as goal
 
 pub returns-then-at-e : goal.returns-then-at-e

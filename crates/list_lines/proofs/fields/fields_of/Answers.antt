@@ -4,7 +4,6 @@ use native.Mathlib.Omega.{arith}
 use borrow.Author.Tests.{not-true, not-false}
 use Rattle.orders.proofs.OneLineLaws.{one-ends}
 use Rattle.orders.proofs.ListLineLaws.{name_from, name-to, fields_read_lem, millionths-back}
-use borrow.Author.Rules.{rules}
 use Rattle.list_lines.proofs.fields.fields_of.Goals as goal
 
 pub overflow_sub-e : goal.overflow_sub-e

@@ -1,10 +1,6 @@
-use Prim.Native.Nat.{◌-◌, ◌≤◌}
-use mathlib.Core.Path.{◌≡◌, sym, ◌∙◌}
+use mathlib.Core.Path.{sym, ◌∙◌}
 use native.Mathlib.Omega.{arith}
-use lib.ListN.{length}
-use borrow.Author.Rules.{rules}
-use Rattle.orders.specs.ListLines.{is_one_line}
-use Rattle.orders.proofs.OneLineLaws.{one_from, one-first, one_none, one-space, one-feed, one-step}
+use Rattle.orders.proofs.OneLineLaws.{one-first, one_none, one-space, one-feed, one-step}
 use Rattle.list_lines.proofs.fields.is_one_line.Goals as goal
 
 pub loop-i-init : goal.loop-i-init

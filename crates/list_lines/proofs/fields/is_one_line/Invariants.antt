@@ -1,10 +1,8 @@
 use Prim.Native.Nat.{◌-◌, ◌≤◌}
-use mathlib.Core.Path.{◌≡◌, sym, ◌∙◌}
-use native.Mathlib.Omega.{arith}
+use mathlib.Core.Path.{◌≡◌}
 use lib.ListN.{length}
-use borrow.Author.Rules.{rules}
 use Rattle.orders.specs.ListLines.{is_one_line}
-use Rattle.orders.proofs.OneLineLaws.{one_from, one-first, one_none, one-space, one-feed, one-step}
+use Rattle.orders.proofs.OneLineLaws.{one_from}
 use Rattle.list_lines.proofs.fields.is_one_line.Given as goal
 
 abbrev pub invariant-loop-i : goal.invariant-loop-i

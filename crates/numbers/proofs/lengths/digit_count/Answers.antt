@@ -1,8 +1,4 @@
-use Prim.Native.Nat.{◌+◌, ◌≤◌}
-use mathlib.Core.Path.{◌≡◌}
 use native.Mathlib.Omega.{arith}
-use lib.ListN.{length}
-use Rattle.numbers.specs.Texts.{whole_text}
 use Rattle.numbers.proofs.DigitLaws.{whole_one, whole-more, whole-some, whole-few}
 use Rattle.numbers.proofs.lengths.digit_count.Goals as goal
 

@@ -1,9 +1,7 @@
 use Prim.Native.Nat.{◌+◌, ◌≤◌}
 use mathlib.Core.Path.{◌≡◌}
-use native.Mathlib.Omega.{arith}
 use lib.ListN.{length}
 use Rattle.numbers.specs.Texts.{whole_text}
-use Rattle.numbers.proofs.DigitLaws.{whole_one, whole-more, whole-some, whole-few}
 use Rattle.numbers.proofs.lengths.digit_count.Given as goal
 
 abbrev pub invariant-loop-rest : goal.invariant-loop-rest

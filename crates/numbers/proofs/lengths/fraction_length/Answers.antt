@@ -1,5 +1,4 @@
 use native.Mathlib.Omega.{arith}
-use borrow.Author.Rules.{rules}
 use Rattle.numbers.proofs.TextLaws.{fraction-none, fraction-some}
 use Rattle.numbers.proofs.lengths.fraction_length.Goals as goal
 

@@ -1,5 +1,5 @@
 use native.Mathlib.Omega.{arith}
-use Rattle.numbers.proofs.PutLaws.{Spaces, spaces-start, spaces_turn, spaces-end}
+use Rattle.numbers.proofs.PutLaws.{spaces-start, spaces_turn, spaces-end}
 use Rattle.numbers.proofs.puts.clear.Goals as goal
 
 pub loop-i-init : goal.loop-i-init

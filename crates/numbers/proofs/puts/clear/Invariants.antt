@@ -1,5 +1,4 @@
-use native.Mathlib.Omega.{arith}
-use Rattle.numbers.proofs.PutLaws.{Spaces, spaces-start, spaces_turn, spaces-end}
+use Rattle.numbers.proofs.PutLaws.{Spaces}
 use Rattle.numbers.proofs.puts.clear.Given as goal
 
 abbrev pub invariant-loop-i : goal.invariant-loop-i

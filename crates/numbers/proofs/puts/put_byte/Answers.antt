@@ -1,4 +1,3 @@
-use borrow.Author.Rules.{rules}
 use Rattle.numbers.proofs.PutLaws.{put-none, put_byte}
 use Rattle.numbers.proofs.puts.put_byte.Goals as goal
 

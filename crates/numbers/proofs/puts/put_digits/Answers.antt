@@ -1,5 +1,5 @@
 use native.Mathlib.Omega.{arith}
-use Rattle.numbers.proofs.PutLaws.{Digits, digits-room, digits-start, digits_turn, digits-end}
+use Rattle.numbers.proofs.PutLaws.{digits-room, digits-start, digits_turn, digits-end}
 use Rattle.numbers.proofs.puts.put_digits.Goals as goal
 
 pub overflow_sub-start : goal.overflow_sub-start

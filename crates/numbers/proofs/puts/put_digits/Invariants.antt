@@ -1,5 +1,4 @@
-use native.Mathlib.Omega.{arith}
-use Rattle.numbers.proofs.PutLaws.{Digits, digits-room, digits-start, digits_turn, digits-end}
+use Rattle.numbers.proofs.PutLaws.{Digits}
 use Rattle.numbers.proofs.puts.put_digits.Given as goal
 
 abbrev pub invariant-loop-at : goal.invariant-loop-at

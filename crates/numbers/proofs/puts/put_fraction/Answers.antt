@@ -1,6 +1,5 @@
 use Prim.Native.Nat.{◌/◌, ◌%◌}
 use mathlib.Core.List.{[], ◌∷◌}
-use borrow.Author.Rules.{rules}
 use Rattle.numbers.specs.Texts.{last_digits}
 use Rattle.numbers.proofs.PutLaws.{put-none, put_as, room_right, room_left, put_both, point-none, point-some, place-some}
 use Rattle.numbers.proofs.puts.put_fraction.Goals as goal

@@ -1,5 +1,4 @@
 use mathlib.Core.Path.{sym}
-use borrow.Author.Rules.{rules}
 use Rattle.numbers.proofs.PutLaws.{put-none, room_as, put_as, sign_minus, sign-none}
 use Rattle.numbers.proofs.puts.put_sign.Goals as goal
 

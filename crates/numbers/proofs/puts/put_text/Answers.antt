@@ -1,7 +1,6 @@
 use Prim.Native.Nat.{◌/◌}
 use mathlib.Core.List.{◌++◌}
 use mathlib.Core.Path.{refl}
-use borrow.Author.Rules.{rules}
 use Rattle.numbers.specs.Texts.{sign_text, whole_text, fraction_text}
 use Rattle.numbers.proofs.PutLaws.{room_right, room_left, put_both}
 use Rattle.numbers.proofs.puts.put_text.Goals as goal

@@ -1,6 +1,5 @@
 use mathlib.Core.Path.{sym}
 use native.Mathlib.Omega.{arith}
-use borrow.Author.Rules.{rules}
 use Rattle.numbers.proofs.PutLaws.{room_as, put_as, whole_by-count}
 use Rattle.numbers.proofs.puts.put_whole.Goals as goal
 

@@ -1,4 +1,3 @@
-use borrow.Author.Rules.{rules}
 use Rattle.profiles.proofs.ProfileLaws.{noted_other, noted-first, noted-later}
 use Rattle.profiles.proofs.runs.noted.Goals as goal
 

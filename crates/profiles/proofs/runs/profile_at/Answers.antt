@@ -1,6 +1,5 @@
 -- The file is opened, then the rows of the profile are found.
 use Rattle.profiles.proofs.RecordLaws.{profile-refused, profile-none, profile-found}
-use borrow.Author.Rules.{rules}
 use Rattle.profiles.proofs.runs.profile_at.Goals as goal
 
 pub returns-then-checked-ne0 : goal.returns-then-checked-ne0

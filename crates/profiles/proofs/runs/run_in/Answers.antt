@@ -1,7 +1,6 @@
 -- The rows of a bottle file by its columns' kinds; a CTD file is one profile.
 use Rattle.format.proofs.OpenedLaws.{opened-table}
 use Rattle.profiles.proofs.RecordLaws.{kinds-room, kinds_taken, kinds-some, bottle-rows, bottle-run, ctd-run, ctd-none}
-use borrow.Author.Rules.{rules}
 use Rattle.profiles.proofs.runs.run_in.Goals as goal
 
 pub slice_bounds-kinds-end : goal.slice_bounds-kinds-end

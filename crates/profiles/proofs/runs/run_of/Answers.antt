@@ -1,11 +1,10 @@
 -- One walk over the data lines: the rows of profile k among all are those passed, then those among the rest.
-use Prim.Native.Nat.{ℕ, ◌+◌, ◌-◌, ◌<◌}
+use Prim.Native.Nat.{ℕ, ◌+◌, ◌<◌}
 use mathlib.Core.Path.{sym, subst, ap}
 use mathlib.Core.Bool.{not, ◌&&◌}
 use native.Mathlib.Omega.{arith}
 use lib.ListN.{length}
 use lib.Dec.{ltb}
-use borrow.Author.Rules.{rules}
 use Rattle.verdicts.specs.declared.Keys.{Keys}
 use Rattle.line_bytes.specs.Cells.{line_at}
 use Rattle.line_bytes.specs.Inner.Scans.{Stop}

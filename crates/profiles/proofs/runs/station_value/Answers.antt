@@ -1,5 +1,4 @@
 use Rattle.profiles.proofs.RecordLaws.{station-column, station-headers, station-header}
-use borrow.Author.Rules.{rules}
 use Rattle.profiles.proofs.runs.station_value.Goals as goal
 
 pub header_value-requires : goal.header_value-requires

@@ -1,6 +1,5 @@
 -- The cell of the column of that name, if the names line has one.
 use Rattle.profiles.proofs.ValueLaws.{none_read, column-none, cell-found}
-use borrow.Author.Rules.{rules}
 use Rattle.profiles.proofs.values.column_value.Goals as goal
 
 pub returns-then-c-eq0 : goal.returns-then-c-eq0

@@ -1,13 +1,7 @@
 -- The value among all headers is the value among those from the present line on.
-use Prim.Native.Nat.{ℕ, ◌-◌}
 use mathlib.Core.Path.{refl, ◌∙◌}
-use mathlib.Core.List.{List}
 use native.Mathlib.Omega.{arith}
-use borrow.Author.Rules.{rules}
-use Rattle.format.specs.Headers.{Header}
-use Rattle.format.specs.Records.{header_value}
-use Rattle.format.specs.Inner.Heads.{HeaderLines}
-use Rattle.profiles.proofs.ValueLaws.{none_read, HeadersLeft, headers_done, left_parted, left_passed, left-found}
+use Rattle.profiles.proofs.ValueLaws.{none_read, headers_done, left_parted, left_passed, left-found}
 use Rattle.profiles.proofs.values.header_value.Goals as goal
 
 pub loop-at-init : goal.loop-at-init

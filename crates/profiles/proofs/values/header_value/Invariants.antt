@@ -1,13 +1,10 @@
 -- The value among all headers is the value among those from the present line on.
 use Prim.Native.Nat.{ℕ, ◌-◌}
-use mathlib.Core.Path.{refl, ◌∙◌}
 use mathlib.Core.List.{List}
-use native.Mathlib.Omega.{arith}
-use borrow.Author.Rules.{rules}
 use Rattle.format.specs.Headers.{Header}
 use Rattle.format.specs.Records.{header_value}
 use Rattle.format.specs.Inner.Heads.{HeaderLines}
-use Rattle.profiles.proofs.ValueLaws.{none_read, HeadersLeft, headers_done, left_parted, left_passed, left-found}
+use Rattle.profiles.proofs.ValueLaws.{HeadersLeft}
 use Rattle.profiles.proofs.values.header_value.Given as goal
 
 abbrev pub invariant-loop-at : goal.invariant-loop-at

@@ -1,4 +1,3 @@
-use borrow.Author.Rules.{rules}
 use Rattle.profiles.proofs.ValueLaws.{number-none, number-some}
 use Rattle.profiles.proofs.values.number_in.Goals as goal
 

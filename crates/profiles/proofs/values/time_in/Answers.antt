@@ -1,4 +1,3 @@
-use borrow.Author.Rules.{rules}
 use Rattle.profiles.proofs.ValueLaws.{time-none, time-missing, time-given}
 use Rattle.profiles.proofs.values.time_in.Goals as goal
 

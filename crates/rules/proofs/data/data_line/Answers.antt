@@ -1,7 +1,6 @@
 use mathlib.Core.Path.{sym, subst}
 use mathlib.Core.Bool.{true, false}
 use native.Mathlib.Omega.{arith}
-use borrow.Author.Rules.{rules}
 use Rattle.rows.proofs.RowLaws.{row_read}
 use Rattle.rules.specs.Inner.Data.{LineRead}
 use Rattle.rules.proofs.DataLaws.{rows-below, line-test, line-held, line-within, line-stop, line_refused, line-none, line-end, line_full, line_odd, line_row}

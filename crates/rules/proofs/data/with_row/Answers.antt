@@ -3,7 +3,6 @@ use mathlib.Core.Path.{ap}
 use mathlib.Core.Bool.{false, not, ◌&&◌}
 use lib.Dec.{ltb}
 use native.Mathlib.Omega.{arith}
-use borrow.Author.Rules.{rules}
 use Rattle.format.specs.Profiles.{same_key}
 use Rattle.format.specs.Inner.Rows.{key_at}
 use Rattle.rows.proofs.RowLaws.{border_one, one-few}

@@ -1,14 +1,10 @@
 -- The loop's invariant: the run goes on from the present line.
 use Prim.Native.Nat.{◌+◌, ◌-◌, ◌^◌, ◌≤◌}
-use mathlib.Core.Path.{◌≡◌, refl, ◌∙◌}
-use native.Mathlib.Omega.{arith}
+use mathlib.Core.Path.{◌≡◌}
 use lib.ListN.{length}
-use borrow.Author.Rules.{rules}
 use Rattle.format.specs.Places.{Place, run}
 use Rattle.format.specs.Inner.Lines.{lines_from, StartsAt}
 use Rattle.rules.specs.Inner.Free.{FreePlace}
-use Rattle.format.proofs.RunLaws.{line-ends, starts-on}
-use Rattle.rules.proofs.FreeLaws.{only_comment, only-other, free_broken, free_on}
 use Rattle.rules.proofs.free.free_lines.Given as goal
 
 abbrev pub invariant-loop-at : goal.invariant-loop-at

@@ -1,12 +1,10 @@
 -- The run from the start is what is left from the present line on, after the headers read.
-use Prim.Native.Nat.{◌+◌, ◌-◌, ◌≤◌}
-use mathlib.Core.Path.{◌≡◌, refl}
+use mathlib.Core.Path.{refl}
 use native.Mathlib.Omega.{arith}
-use lib.ListN.{length, replicate, length-set}
-use borrow.Author.Rules.{rules}
+use lib.ListN.{replicate, length-set}
 use Rattle.headers.proofs.HeaderLaws.{first-kept, first_said, header-kept}
 use Rattle.format.specs.Inner.Names.{names_at}
-use Rattle.rules.proofs.HeaderRunLaws.{HeadersOn, first_on, left_ended, left-refused, left-on, left-named, left_lacking, headers-refused}
+use Rattle.rules.proofs.HeaderRunLaws.{first_on, left_ended, left-refused, left-on, left-named, left_lacking, headers-refused}
 use Rattle.rules.proofs.heads.more_headers.Goals as goal
 
 pub overflow_add-at : goal.overflow_add-at

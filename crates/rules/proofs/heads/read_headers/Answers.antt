@@ -1,5 +1,4 @@
 use native.Mathlib.Omega.{arith}
-use borrow.Author.Rules.{rules}
 use Rattle.rules.proofs.HeaderRunLaws.{first_ended, first-refused, headers-refused}
 use Rattle.rules.proofs.heads.read_headers.Goals as goal
 

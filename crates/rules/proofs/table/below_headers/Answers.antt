@@ -1,7 +1,6 @@
 -- The names line keeps its rules, or is refused; then the units line. The table is that of its names.
 use mathlib.Core.Path.{sym, ◌∙◌}
 use native.Mathlib.Omega.{arith}
-use borrow.Author.Rules.{rules}
 use Rattle.format.proofs.RunLaws.{line-ends, starts-on}
 use Rattle.columns.proofs.ColumnLaws.{columns-read}
 use Rattle.rules.proofs.TableLaws.{kinds-room, names-none, names_broken, names-refused, names-on, table-refused, table_told}

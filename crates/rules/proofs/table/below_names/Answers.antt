@@ -1,7 +1,6 @@
 -- The units line keeps its rules and has a cell for each name, or is refused; then the data lines.
 use mathlib.Core.Path.{sym, ◌∙◌}
 use native.Mathlib.Omega.{arith}
-use borrow.Author.Rules.{rules}
 use Rattle.format.proofs.RunLaws.{line-ends, starts-on}
 use Rattle.rules.proofs.TableLaws.{units-none, units_broken, units-other, units-on, units-refused}
 use Rattle.rules.proofs.table.below_names.Goals as goal

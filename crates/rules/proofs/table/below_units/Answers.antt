@@ -2,7 +2,6 @@
 use mathlib.Core.Path.{refl, sym, ◌∙◌}
 use native.Mathlib.Omega.{arith}
 use lib.Seq.{length-take-le}
-use borrow.Author.Rules.{rules}
 use Rattle.format.specs.Places.{after}
 use Rattle.rules.specs.Inner.Free.{ended}
 use Rattle.rules.proofs.TableLaws.{after-all, rows-refused}

@@ -2,7 +2,6 @@
 use mathlib.Core.Path.{◌∙◌}
 use mathlib.Core.List.{[]}
 use native.Mathlib.Omega.{arith}
-use borrow.Author.Rules.{rules}
 use Rattle.rules.specs.Inner.Free.{commented}
 use Rattle.rules.proofs.FirstRunLaws.{first_read}
 use Rattle.rules.proofs.TableLaws.{bottle_from, ctd_from, file-refused, file_from}

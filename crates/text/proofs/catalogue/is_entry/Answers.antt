@@ -1,10 +1,6 @@
-use Prim.Native.Nat.{◌≤◌, ◌-◌}
-use mathlib.Core.Path.{sym, ◌∙◌, ◌≡◌, refl}
-use lib.ListN.{length}
+use mathlib.Core.Path.{sym, ◌∙◌, refl}
 use borrow.Author.Rules.{rules}
-use Rattle.line_bytes.specs.Bytes.{equal}
-use Rattle.text.specs.Catalogue.{entry_name}
-use Rattle.text.proofs.EntryLaws.{same_from, entry-long, entry-stop, entry-step, entry-ends, entry_full}
+use Rattle.text.proofs.EntryLaws.{entry-long, entry-stop, entry-step, entry-ends, entry_full}
 use Rattle.text.proofs.catalogue.is_entry.Goals as goal
 
 pub returns-then-name-gt-ENTRY : goal.returns-then-name-gt-ENTRY

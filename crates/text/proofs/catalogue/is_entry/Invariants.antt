@@ -1,10 +1,9 @@
 use Prim.Native.Nat.{◌≤◌, ◌-◌}
-use mathlib.Core.Path.{sym, ◌∙◌, ◌≡◌, refl}
+use mathlib.Core.Path.{◌≡◌}
 use lib.ListN.{length}
-use borrow.Author.Rules.{rules}
 use Rattle.line_bytes.specs.Bytes.{equal}
 use Rattle.text.specs.Catalogue.{entry_name}
-use Rattle.text.proofs.EntryLaws.{same_from, entry-long, entry-stop, entry-step, entry-ends, entry_full}
+use Rattle.text.proofs.EntryLaws.{same_from}
 use Rattle.text.proofs.catalogue.is_entry.Given as goal
 
 abbrev pub invariant-loop-j : goal.invariant-loop-j

@@ -1,5 +1,4 @@
 use mathlib.Core.Path.{◌∙◌}
-use borrow.Author.Rules.{rules}
 use Rattle.text.proofs.ReadingLaws.{number_small, reading-other, reading-refused, reading-good}
 use Rattle.text.proofs.readings.reading_of.Goals as goal
 

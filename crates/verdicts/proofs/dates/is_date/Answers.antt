@@ -1,4 +1,3 @@
-use borrow.Author.Rules.{rules}
 use Rattle.verdicts.specs.Dates.{is_date}
 use Rattle.verdicts.proofs.dates.is_date.Goals as goal
 

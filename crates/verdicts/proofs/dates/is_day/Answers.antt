@@ -1,4 +1,3 @@
-use borrow.Author.Rules.{rules}
 use Rattle.verdicts.specs.Dates.{is_day}
 use Rattle.verdicts.proofs.dates.is_day.Goals as goal
 

@@ -1,5 +1,4 @@
 use mathlib.Core.Path.{sym, ◌∙◌}
-use borrow.Author.Rules.{rules}
 use Rattle.verdicts.proofs.DateLaws.{month_february, month-other}
 use Rattle.verdicts.proofs.dates.month_days.Goals as goal
 

@@ -1,7 +1,5 @@
-use Prim.Native.Nat.{◌-◌}
 use native.Mathlib.Omega.{arith}
-use borrow.Author.Rules.{rules}
-use Rattle.whole_columns.proofs.FillingLaws.{Flagging, flag-start, flags_long, flag-digit, flag_turn, flag-end}
+use Rattle.whole_columns.proofs.FillingLaws.{flag-start, flags_long, flag-digit, flag_turn, flag-end}
 use Rattle.whole_columns.proofs.filling.fill_flags.Goals as goal
 
 pub loop-j-init : goal.loop-j-init

@@ -1,9 +1,6 @@
-use mir.Syntax.{w64}
-use mir.ValLaws.{to_z-of_z}
-use Prim.Native.Nat.{◌-◌}
 use native.Mathlib.Omega.{arith}
 use borrow.Author.Rules.{rules}
-use Rattle.whole_columns.proofs.FillingLaws.{Filling, fill_start, cases-long, millionths-long, values-long, fill_turn, fill_end}
+use Rattle.whole_columns.proofs.FillingLaws.{fill_start, cases-long, millionths-long, values-long, fill_turn, fill_end}
 use Rattle.whole_columns.proofs.filling.fill_values.Goals as goal
 
 pub loop-k-init : goal.loop-k-init

@@ -1,6 +1,5 @@
 use native.Mathlib.Omega.{arith}
 use Rattle.whole_columns.proofs.OpeningLaws.{file-refused, column-absent, column-other, table-short, column-found}
-use borrow.Author.Rules.{rules}
 use Rattle.whole_columns.proofs.opening.open_column.Goals as goal
 
 pub returns-then-c-ne0 : goal.returns-then-c-ne0

@@ -1,8 +1,7 @@
 -- The file is opened, then the row's line and the column's cell are found.
 use Rattle.format.proofs.InsideLaws.{inside_by}
 use Rattle.exchange.proofs.CellLaws.{ask-refused, ask-missed, ask-found}
-use borrow.Author.Rules.{rules}
-use Rattle.exchange.proofs.cells.find_cell.Goals as goal
+use Rattle.exchange.proofs.finding.find_cell.Goals as goal
 
 pub returns-then-checked-ne0 : goal.returns-then-checked-ne0
 returns-then-checked-ne0 c =
