@@ -5,11 +5,11 @@ set -euo pipefail
 root=$(cd "$(dirname "${BASH_SOURCE[0]}")" && pwd)
 file=${1:-$root/crates/report/stdin}
 program=$root/target/bin/report
-if [ ! -e "$program" ] || [ -n "$(find "$root/crates" "$root/crates.txt" -type f -newer "$program" -print -quit)" ]; then
+if [ ! -e "$program" ] || [ -n "$(find "$root/crates" "$root/crates.txt" -name out -prune -o -type f -newer "$program" -print -quit)" ]; then
     echo "building the report program ..." >&2
-    mkdir -p "$root/target"
-    (cd "$root" && rt check report) >"$root/target/report.log" 2>&1 || { tail -n 20 "$root/target/report.log" >&2; exit 2; }
-    touch "$program"
+    mkdir -p "$root/target/bin"
+    (cd "$root/crates/report" && rt run <stdin) >"$root/target/report.log" 2>&1 || { tail -n 20 "$root/target/report.log" >&2; exit 2; }
+    cp "$root/crates/report/out/report" "$program"
 fi
 report=$("$program" <"$file")
 printf '%s\n' "$report"
