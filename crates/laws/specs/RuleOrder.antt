@@ -1,4 +1,4 @@
--- Document 01, "Refusal numbers": the rules of each line of a file. What they are and in which order stands with the check (Places: logicAt, end_rules); here
+-- Document 01, "Refusal numbers": the rules of each line of a file. What they are and in which order stands with the check (Places: rules_at, end_rules); here
 -- is where a line stands: the place that the lines before it lead to, no rule being looked at.
 use Rattle.std.specs.Prelude.{ℕ, ◌+◌, ◌-◌, List, [], ◌∷◌, cond, length, get_or, take, ltb}
 use Rattle.line_bytes.specs.Bytes.{line_feed}
