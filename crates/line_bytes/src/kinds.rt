@@ -1,4 +1,4 @@
-// The kinds of columns and headers, as the numbers that the code keeps for them (code_of, which the crate verdicts defines).
+// The kinds of columns and headers, as the numbers that the code keeps for them (codeOf, which the crate verdicts defines).
 pub const MEASURED: u8 = 0;
 
 pub const LATITUDE: u8 = 1;
