@@ -25,7 +25,6 @@ use Rattle.format.specs.Faults.{place_in, unless, has_all, member, ◌then◌}
 use Rattle.format.specs.Columns.{Sort, bottle, kind_of_name, kinds_of, names_of, required_names}
 use Rattle.format.specs.Grid.{span_in, starts}
 use Rattle.format.specs.Places.{Table, accepted, outcome_of}
-use Rattle.format.specs.Profiles.{grid}
 use Rattle.format.specs.Answers.{kind_at, row_cells, cell_text, cell_place, trimmed_place}
 use Rattle.format.specs.Records.{given, absent, column_value, value_by, station_value, stationed_at, station_place}
 use Rattle.format.specs.Inner.Faults.{name_fault, flag_fault}

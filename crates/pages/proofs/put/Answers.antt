@@ -6,12 +6,8 @@
 -- src/lib.rt:25:5
 -- src/lib.rt:20:1
 -- src/lib.rt:20:1
-use Prim.Native.Nat.{◌≤◌, ◌-◌}
-use mathlib.Core.Path.{◌≡◌, refl, sym, ◌∙◌}
+use mathlib.Core.Path.{refl, sym, ◌∙◌}
 use native.Mathlib.Omega.{arith}
-use lib.ListN.{length, drop}
-use borrow.Author.Rules.{rules}
-use Rattle.pages.specs.Pages.{page, lay}
 use Rattle.pages.proofs.PageLaws.{byte-room, text-end, text-step}
 use Rattle.pages.proofs.put.Goals as goal
 

@@ -7,12 +7,9 @@
 -- src/lib.rt:20:1
 -- src/lib.rt:20:1
 use Prim.Native.Nat.{◌≤◌, ◌-◌}
-use mathlib.Core.Path.{◌≡◌, refl, sym, ◌∙◌}
-use native.Mathlib.Omega.{arith}
+use mathlib.Core.Path.{◌≡◌}
 use lib.ListN.{length, drop}
-use borrow.Author.Rules.{rules}
 use Rattle.pages.specs.Pages.{page, lay}
-use Rattle.pages.proofs.PageLaws.{byte-room, text-end, text-step}
 use Rattle.pages.proofs.put.Given as goal
 
 abbrev pub invariant-loop-i : goal.invariant-loop-i

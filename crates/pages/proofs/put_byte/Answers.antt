@@ -3,7 +3,6 @@
 -- src/lib.rt:14:9
 -- src/lib.rt:14:9
 -- src/lib.rt:9:1
-use borrow.Author.Rules.{rules}
 use Rattle.pages.proofs.PageLaws.{byte_put, byte_left}
 use Rattle.pages.proofs.put_byte.Goals as goal
 

@@ -1,5 +1,4 @@
 use Rattle.pochahuic.proofs.NumberLaws.{check_answered}
-use borrow.Author.Rules.{rules}
 use Rattle.pochahuic.proofs.pochahuic_check.Goals as goal
 
 pub returns : goal.returns

@@ -1,7 +1,6 @@
 use mir.Syntax.{w64}
 use mir.ValLaws.{to_z-of_z}
 use Rattle.pochahuic.proofs.NumberLaws.{order_along, applied_answered, denied_answered}
-use borrow.Author.Rules.{rules}
 use Rattle.pochahuic.proofs.pochahuic_correct.Goals as goal
 
 pub returns-in-Applied : goal.returns-in-Applied

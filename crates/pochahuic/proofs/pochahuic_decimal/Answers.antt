@@ -1,5 +1,3 @@
-use mir.Syntax.{w64}
-use mir.ValLaws.{to_z-of_z}
 use Rattle.pochahuic.proofs.NumberLaws.{present_answered, missing_answered, refused_answered}
 use borrow.Author.Rules.{rules}
 use Rattle.pochahuic.proofs.pochahuic_decimal.Goals as goal

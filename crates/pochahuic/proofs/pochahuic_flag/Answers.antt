@@ -1,5 +1,4 @@
 use Rattle.pochahuic.proofs.NumberLaws.{flag_answered}
-use borrow.Author.Rules.{rules}
 use Rattle.pochahuic.proofs.pochahuic_flag.Goals as goal
 
 pub returns : goal.returns

@@ -1,5 +1,3 @@
-use mir.Syntax.{w64}
-use mir.ValLaws.{to_z-of_z}
 use Rattle.pochahuic.proofs.NumberLaws.{line_answered}
 use borrow.Author.Rules.{rules}
 use Rattle.pochahuic.proofs.pochahuic_list_line.Goals as goal

@@ -1,5 +1,4 @@
 use mathlib.Core.Path.{sym, ap}
-use borrow.Author.Rules.{rules}
 use Rattle.pochahuic.specs.Numbers.{time_numbers}
 use Rattle.pochahuic.proofs.time_numbers.Goals as goal
 

@@ -1,5 +1,4 @@
 use Rattle.pochahuic_columns.proofs.NumberLaws.{column_answered, filled_along}
-use borrow.Author.Rules.{rules}
 use Rattle.pochahuic_columns.proofs.pochahuic_column_flags.Goals as goal
 
 pub returns : goal.returns

@@ -1,4 +1,3 @@
-use borrow.Author.Rules.{rules}
 use Rattle.pochahuic_columns.proofs.pochahuic_column_in.Goals as goal
 
 pub returns : goal.returns

@@ -1,5 +1,4 @@
 use Rattle.pochahuic_columns.proofs.NumberLaws.{named_answered}
-use borrow.Author.Rules.{rules}
 use Rattle.pochahuic_columns.proofs.pochahuic_column_named.Goals as goal
 
 pub returns : goal.returns

@@ -1,7 +1,6 @@
 use mathlib.Core.Path.{refl}
 use Rattle.pochahuic.proofs.NumberLaws.{check_answered}
 use Rattle.pochahuic_columns.proofs.NumberLaws.{open_answered}
-use borrow.Author.Rules.{rules}
 use Rattle.pochahuic_columns.proofs.pochahuic_open.Goals as goal
 
 pub returns : goal.returns

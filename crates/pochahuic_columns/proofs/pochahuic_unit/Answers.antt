@@ -1,5 +1,4 @@
 use Rattle.pochahuic.proofs.NumberLaws.{place_answered}
-use borrow.Author.Rules.{rules}
 use Rattle.pochahuic_columns.proofs.pochahuic_unit.Goals as goal
 
 pub returns : goal.returns

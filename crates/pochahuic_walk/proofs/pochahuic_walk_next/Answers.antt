@@ -2,7 +2,6 @@ use mathlib.Core.Path.{ap, ◌∙◌}
 use Rattle.cursors.specs.declared.Cursor.{Cursor}
 use Rattle.cursors.specs.Walk.{step_of}
 use Rattle.pochahuic_walk.specs.Cursors.{cursor_numbers}
-use borrow.Author.Rules.{rules}
 use Rattle.pochahuic_walk.proofs.pochahuic_walk_next.Goals as goal
 
 pub returns : goal.returns

@@ -1,4 +1,3 @@
-use borrow.Author.Rules.{rules}
 use Rattle.pages.proofs.PageLaws.{put-after}
 use Rattle.report_text.proofs.ReportLaws.{lay_along, report-long, report-refused, report-accepted}
 use Rattle.report_text.proofs.report.Goals as goal

@@ -1,7 +1,6 @@
 use mathlib.Core.Path.{sym, ap}
 use native.Mathlib.Omega.{arith}
 use lib.Seq.{length-take-le, take_all}
-use borrow.Author.Rules.{rules}
 use Rattle.report_text.specs.Report.{report_of}
 use Rattle.report_text.proofs.ReportLaws.{lay_along}
 use Rattle.report_text.proofs.report_first.Goals as goal

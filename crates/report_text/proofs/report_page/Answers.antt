@@ -1,6 +1,5 @@
 use mathlib.Core.Path.{sym}
 use lib.Seq.{length-take-le}
-use borrow.Author.Rules.{rules}
 use Rattle.report_text.proofs.FitLaws.{report-laid, read_says, page_longer}
 use Rattle.report_text.proofs.report_page.Goals as goal
 

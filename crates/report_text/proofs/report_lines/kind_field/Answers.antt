@@ -1,4 +1,3 @@
-use borrow.Author.Rules.{rules}
 use Rattle.pages.specs.Pages.{lay}
 use Rattle.report_text.proofs.report_lines.kind_field.Goals as goal
 

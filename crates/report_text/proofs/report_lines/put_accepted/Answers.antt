@@ -1,4 +1,3 @@
-use borrow.Author.Rules.{rules}
 use Rattle.report_text.specs.Report.{accepted_line}
 use Rattle.pages.proofs.PageLaws.{put-after}
 use Rattle.report_text.proofs.report_lines.put_accepted.Goals as goal

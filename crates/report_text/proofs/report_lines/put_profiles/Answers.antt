@@ -1,9 +1,6 @@
-use Prim.Native.Nat.{◌-◌, ◌≤◌}
 use mathlib.Core.Path.{◌≡◌, refl, ap, ◌∙◌}
 use native.Mathlib.Omega.{arith}
-use lib.ListN.{length}
-use borrow.Author.Rules.{rules}
-use Rattle.pages.specs.Pages.{page, lay}
+use Rattle.pages.specs.Pages.{lay}
 use Rattle.report_text.specs.Report.{profile_lines}
 use Rattle.pages.proofs.PageLaws.{text-room, put-after}
 use Rattle.report_text.proofs.ReportLaws.{lay_along, profiles-more}

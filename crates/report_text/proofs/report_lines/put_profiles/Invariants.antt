@@ -1,12 +1,8 @@
 use Prim.Native.Nat.{◌-◌, ◌≤◌}
-use mathlib.Core.Path.{◌≡◌, refl, ap, ◌∙◌}
-use native.Mathlib.Omega.{arith}
+use mathlib.Core.Path.{◌≡◌}
 use lib.ListN.{length}
-use borrow.Author.Rules.{rules}
 use Rattle.pages.specs.Pages.{page, lay}
 use Rattle.report_text.specs.Report.{profile_lines}
-use Rattle.pages.proofs.PageLaws.{text-room, put-after}
-use Rattle.report_text.proofs.ReportLaws.{lay_along, profiles-more}
 use Rattle.report_text.proofs.report_lines.put_profiles.Given as goal
 
 abbrev pub invariant-loop-k : goal.invariant-loop-k

@@ -1,5 +1,4 @@
 use mathlib.Core.Path.{ap}
-use borrow.Author.Rules.{rules}
 use Rattle.report_text.specs.Report.{field}
 use Rattle.report_text.proofs.ReportLaws.{lay_along}
 use Rattle.report_text.proofs.report_lines.station_field.Goals as goal

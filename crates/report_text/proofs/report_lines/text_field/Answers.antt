@@ -1,4 +1,3 @@
-use borrow.Author.Rules.{rules}
 use Rattle.pages.proofs.PageLaws.{put-after}
 use Rattle.report_text.proofs.report_lines.text_field.Goals as goal
 
