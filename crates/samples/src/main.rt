@@ -29,7 +29,11 @@ fn sequences_pass<W: Write>(out: &mut W) -> io::Result<bool> {
     if !passes(out, checks::refuses(b"\xed\xa0\x80"), b"ED A0 80 is 3")? {
         return Ok(false);
     }
-    passes(out, checks::refuses(b"\xf4\x90\x80\x80"), b"F4 90 80 80 is 3")
+    passes(
+        out,
+        checks::refuses(b"\xf4\x90\x80\x80"),
+        b"F4 90 80 80 is 3",
+    )
 }
 
 fn files_pass<W: Write>(out: &mut W) -> io::Result<bool> {
@@ -43,13 +47,21 @@ fn files_pass<W: Write>(out: &mut W) -> io::Result<bool> {
     )? {
         return Ok(false);
     }
-    if !passes(out, checks::flag_zero(), b"K with row 3's flag 0 is 18 at 7, 62")? {
+    if !passes(
+        out,
+        checks::flag_zero(),
+        b"K with row 3's flag 0 is 18 at 7, 62",
+    )? {
         return Ok(false);
     }
     if !passes(out, checks::bottles(), b"BOTTLES is 7 at 1, 1")? {
         return Ok(false);
     }
-    passes(out, checks::line_ends(), b"0D before a line feed is 4 at 4, 18")
+    passes(
+        out,
+        checks::line_ends(),
+        b"0D before a line feed is 4 at 4, 18",
+    )
 }
 
 fn corrections_pass<W: Write>(out: &mut W) -> io::Result<bool> {

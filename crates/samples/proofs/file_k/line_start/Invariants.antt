@@ -1,6 +1,5 @@
 use Prim.Native.Nat.{◌-◌, ◌≤◌}
 use lib.ListN.{length}
-use borrow.Author.Rules.{rules}
 use Rattle.samples.proofs.file_k.line_start.Given as goal
 
 abbrev pub invariant-loop-i : goal.invariant-loop-i
