@@ -3,8 +3,9 @@
  * Link target/libpochahuic.a (x86-64 Linux), which `bash bindings/archive` writes. Nothing is allocated, nothing is kept between calls, and
  * calls may be made from several threads at once as long as no two of them share a lent array or a file that one of them corrects.
  *
- * Every call on a file but pochahuic_column_in and pochahuic_walk_next checks the whole file first. What each call answers is proved for every file and every
- * number; what it asks of the caller is C's own:
+ * Every call on a file checks the whole file first, but for those that go on from where a call before came to: pochahuic_column_in, pochahuic_kind_in,
+ * pochahuic_flag_column_in, pochahuic_cell_in, pochahuic_line_after and pochahuic_walk_next. What each call answers is proved for every file and every number; what
+ * it asks of the caller is C's own:
  * - file, name and their lengths: that many bytes that can be read (written, for pochahuic_correct), no null pointer even where the length is 0;
  * - out, millionths, value: arrays and numbers of exactly the sizes shown, which can be written and which share no byte with each other or with the file;
  * - tables (of pochahuic_column_values and pochahuic_column_flags): that many entries, likewise, no null pointer even where the length is 0;
@@ -15,7 +16,8 @@
  * Lines, columns, rows, profiles and headers count from 1; starts of parts count bytes from 0 at the file's start.
  * out[0], out[1], out[2] are the refusal number, the line and the byte column of what is refused: 0 each where nothing is, line and column 0 from 21 on; so
  * are cursor[0], cursor[1], cursor[2].
- * A call answers out[0] or cursor[0] again, but for pochahuic_decimal, whose answer says which reading it is, and pochahuic_column_in, which has neither.
+ * A call answers out[0] or cursor[0] again, but for pochahuic_decimal, whose answer says which reading it is, and for those that have neither: pochahuic_column_in,
+ * pochahuic_kind_in, pochahuic_flag_column_in and pochahuic_line_after.
  */
 #ifndef POCHAHUIC_H
 #define POCHAHUIC_H
@@ -23,7 +25,7 @@
 #include <stddef.h>
 #include <stdint.h>
 
-/* The version of the command, of this library and of all that comes with them; it stands nowhere else. */
+/* The version of this library and of all that comes with it; it stands nowhere else. */
 #define POCHAHUIC_VERSION "4.0.0"
 
 #ifdef __cplusplus
