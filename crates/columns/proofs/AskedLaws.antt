@@ -23,81 +23,70 @@ use Rattle.format.specs.Inner.Grid.{cell_span}
 use Rattle.format.proofs.GridWalkLaws.{end_past, span_own, span-next, span-ended, span-fed}
 use Rattle.columns.specs.Inner.Columns.{is_last}
 use Rattle.format.specs.NamesLine.{name_in_line, kind_in_line, column_in_line, flag_in_line}
-use Rattle.columns.specs.Inner.NamesLine.{is_wanted, first_from}
+use Rattle.columns.specs.Inner.NamesLine.{is_named, is_flag_of, first_from}
 use Rattle.columns.proofs.NamesLineLaws.{end-within, cell-text, cells-last, cells-more}
 
 -- ---- the first column that is wanted: the walk over the cells, which is at the cell at i, column k
-pub record Looked (s : List ℕ) (at : ℕ) (p : List ℕ → Bool) (i k : ℕ) : Type 0 where
-  pub few : k ≤ i + 1
-  pub left : first_from 1 p (names_of (line_at s at)) ≡ first_from k p (names_of (line_at s i))
+abbrev pub Looked : List ℕ → ℕ → (List ℕ → Bool) → ℕ → ℕ → Type 0
+Looked s at p i k = first_from 1 p (names_of (line_at s at)) ≡ first_from k p (names_of (line_at s i))
 
-pub look-first : (s : List ℕ) (at : ℕ) (p : List ℕ → Bool) → Looked s at p at 1
-look-first s at p = record { few = omega arith; left = refl }
-
-module _ (s : List ℕ) (at : ℕ) (p : List ℕ → Bool) (i k : ℕ) (w : Looked s at p i k) (q : ℕ) (eq : q ≡ cell_end 44 s i)
-    (t : List ℕ) (et : t ≡ text_in s i q) (b : Bool) (eb : b ≡ p t) where
-  look-here : first_from 1 p (names_of (line_at s at)) ≡ cond b k (first_from (k + 1) p (map trim (later_pieces 44 (line_at s i))))
-  unfolding first_from
-  look-here =
-      w.left
-      ∙ ap (λ (z : Bool). cond z k (first_from (k + 1) p (map trim (later_pieces 44 (line_at s i))))) (sym (eb ∙ ap p (et ∙ cell-text s i q eq)))
-
-  pub look-found : b ≡ true → k ≡ first_from 1 p (names_of (line_at s at))
-  look-found z = sym (look-here ∙ rw z)
-
-  rest : List (List ℕ) → List (List ℕ)
-  rest [] = []
-  rest (u ∷ us) = us
-
-  pub look_none : b ≡ false → is_last s q ≡ true → 0 ≡ first_from 1 p (names_of (line_at s at))
-  unfolding first_from rest
-  look_none z l =
-      let e : later_pieces 44 (line_at s i) ≡ [] = ap rest (cells-last s i q eq l) in
-      sym (look-here ∙ rw z (ap (λ (us : List (List ℕ)). first_from (k + 1) p (map trim us)) e))
-
+module _ (s : List ℕ) (i q : ℕ) (eq : q ≡ cell_end 44 s i) where
   pub look-room : is_last s q ≡ false → (i ≤ q) × (q < length s)
   look-room l = (omega (arith, eq, cell_end_from 44 s i), (cells-more s i q eq l).0)
 
-  pub look-next : b ≡ false → is_last s q ≡ false → Looked s at p (q + 1) (k + 1)
-  unfolding rest
-  look-next z l =
-      let e : later_pieces 44 (line_at s i) ≡ pieces 44 (line_at s (q + 1)) = ap rest (cells-more s i q eq l).1 in
-      record {
-        few = omega (arith, w.few, (look-room l).0);
-        left = look-here ∙ rw z (ap (λ (us : List (List ℕ)). first_from (k + 1) p (map trim us)) e);
-      }
+  module _ (at : ℕ) (p : List ℕ → Bool) (k : ℕ) (w : Looked s at p i k) (t : List ℕ) (et : t ≡ text_in s i q) (b : Bool) (eb : b ≡ p t) where
+    look-here : first_from 1 p (names_of (line_at s at)) ≡ cond b k (first_from (k + 1) p (map trim (later_pieces 44 (line_at s i))))
+    unfolding first_from
+    look-here =
+        w
+        ∙ ap (λ (z : Bool). cond z k (first_from (k + 1) p (map trim (later_pieces 44 (line_at s i))))) (sym (eb ∙ ap p (et ∙ cell-text s i q eq)))
+
+    pub look-found : b ≡ true → k ≡ first_from 1 p (names_of (line_at s at))
+    look-found z = sym (look-here ∙ rw z)
+
+    rest : List (List ℕ) → List (List ℕ)
+    rest [] = []
+    rest (u ∷ us) = us
+
+    pub look_none : b ≡ false → is_last s q ≡ true → 0 ≡ first_from 1 p (names_of (line_at s at))
+    unfolding first_from rest
+    look_none z l =
+        let e : later_pieces 44 (line_at s i) ≡ [] = ap rest (cells-last s i q eq l) in
+        sym (look-here ∙ rw z (ap (λ (us : List (List ℕ)). first_from (k + 1) p (map trim us)) e))
+
+    pub look-next : b ≡ false → is_last s q ≡ false → Looked s at p (q + 1) (k + 1)
+    unfolding rest
+    look-next z l =
+        let e : later_pieces 44 (line_at s i) ≡ pieces 44 (line_at s (q + 1)) = ap rest (cells-more s i q eq l).1 in
+        look-here ∙ rw z (ap (λ (us : List (List ℕ)). first_from (k + 1) p (map trim us)) e)
 
 -- ---- what is wanted
 module _ (y n : List ℕ) where
-  pub wanted-name : (f : Bool) → f ≡ false → (b : Bool) → b ≡ equal y n → b ≡ is_wanted f n y
-  unfolding is_wanted
-  wanted-name f e b h = rw e h
+  pub flag-of : (p : ℕ) → p ≡ parameter_length y → (b : Bool) → b ≡ equal (take p y) n → (ltb 0 p && b) ≡ is_flag_of n y
+  unfolding is_flag_of
+  flag-of p d b h = rw (h, d)
 
-  pub wanted-flag : (f : Bool) → f ≡ true → (p : ℕ) → p ≡ parameter_length y → (b : Bool) → b ≡ equal (take p y) n → (ltb 0 p && b) ≡ is_wanted f n y
-  unfolding is_wanted
-  wanted-flag f e p d b h = rw (e, h, d)
-
-first-flag : (k : ℕ) (n : List ℕ) (ys : List (List ℕ)) → first_from k (is_wanted true n) ys ≡ flag_from k n ys
-unfolding first_from flag_from is_wanted
+first-flag : (k : ℕ) (n : List ℕ) (ys : List (List ℕ)) → first_from k (is_flag_of n) ys ≡ flag_from k n ys
+unfolding first_from flag_from is_flag_of
 first-flag k n [] = refl
 first-flag k n (y ∷ ys) = ap (cond (is_flag y && equal (parameter_of y) n) k) (first-flag (k + 1) n ys)
 
-first-name : (k : ℕ) (n : List ℕ) (ys : List (List ℕ)) → first_from k (is_wanted false n) ys ≡ cond (member n ys) (place_in n ys + k) 0
-unfolding first_from is_wanted member place_in
+first-name : (k : ℕ) (n : List ℕ) (ys : List (List ℕ)) → first_from k (is_named n) ys ≡ cond (member n ys) (place_in n ys + k) 0
+unfolding first_from is_named member place_in
 first-name k n [] = refl
 first-name k n (y ∷ ys) = go (equal y n) (member n ys) (first-name (k + 1) n ys)
   where
-    go : (a b : Bool) → first_from (k + 1) (is_wanted false n) ys ≡ cond b (place_in n ys + (k + 1)) 0
-        → cond a k (first_from (k + 1) (is_wanted false n) ys) ≡ cond (a || b) (cond a 0 (suc (place_in n ys)) + k) 0
+    go : (a b : Bool) → first_from (k + 1) (is_named n) ys ≡ cond b (place_in n ys + (k + 1)) 0
+        → cond a k (first_from (k + 1) (is_named n) ys) ≡ cond (a || b) (cond a 0 (suc (place_in n ys)) + k) 0
     go true b h = omega arith
     go false true h = h ∙ omega arith
     go false false h = h
 
-pub column_looked : (x n : List ℕ) (r : ℕ) → r ≡ first_from 1 (is_wanted false n) (names_of x) → r ≡ column_in_line x n
+pub column_looked : (x n : List ℕ) (r : ℕ) → r ≡ first_from 1 (is_named n) (names_of x) → r ≡ column_in_line x n
 unfolding column_in_line
 column_looked x n r e = e ∙ first-name 1 n (names_of x)
 
-pub flag_looked : (x : List ℕ) (c : ℕ) (n : List ℕ) → n ≡ name_in_line x c → (r : ℕ) → r ≡ first_from 1 (is_wanted true n) (names_of x) → r ≡ flag_in_line x c
+pub flag_looked : (x : List ℕ) (c : ℕ) (n : List ℕ) → n ≡ name_in_line x c → (r : ℕ) → r ≡ first_from 1 (is_flag_of n) (names_of x) → r ≡ flag_in_line x c
 unfolding flag_in_line
 flag_looked x c n d r e = e ∙ first-flag 1 n (names_of x) ∙ ap (λ (m : List ℕ). flag_from 1 m (names_of x)) d
 

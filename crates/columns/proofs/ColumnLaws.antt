@@ -2,34 +2,36 @@
 use Prim.Native.Nat.{ℕ, zero, suc, ◌+◌, ◌-◌, ◌≤◌, ◌<◌}
 use mathlib.Core.Path.{◌≡◌, refl, sym, ap, ◌∙◌, subst}
 use mathlib.Core.List.{List, [], ◌∷◌, ◌++◌, map}
-use mathlib.Core.Bool.{Bool, true, false, cond, not, ◌&&◌, true≢false}
+use mathlib.Core.Bool.{Bool, true, false, cond, not, ◌&&◌}
 use native.Mathlib.Numerals.{add-one}
 use native.Mathlib.Nat.{not-suc-le-zero, le_of_suc-le-suc}
 use native.Mathlib.Omega.{arith}
 use lib.ListN.{length, get_or, take, drop, set, replicate, length-map, length-append, drop_of_length-le, get_or-map}
 use lib.Seq.{drop-cons, take-suc, take_all, take-append_seam, length-take-le}
-use lib.Dec.{ltb, eqb}
-use borrow.Author.Tests.{lt-ltb, le-ltb, ltb-true, eqb-true, eqb-false}
-use Rattle.line_bytes.specs.Bytes.{bytes}
+use lib.Dec.{ltb}
+use borrow.Author.Tests.{lt-ltb, le-ltb, ltb-true}
+use Rattle.std.specs.Prelude.{Option, Some, None, Result, Ok, Err, is_some, position}
+use Rattle.line_bytes.specs.declared.Span.{Span}
+use Rattle.line_bytes.specs.Bytes.{bytes, equal}
 use Rattle.line_bytes.specs.Cells.{pieces, line_at}
 use Rattle.line_bytes.specs.Spaces.{trim_front, trim_end, trim}
 use Rattle.line_bytes.specs.Names.{is_name, parameter_length, begins_ctd}
 use Rattle.text.specs.Catalogue.{names, kinds, kind_in}
 use Rattle.format.specs.declared.NameFault.{NameFault}
-use Rattle.format.specs.declared.NameFault.TheVariants.{Clean, Bad, Repeated}
-use Rattle.format.specs.Faults.{Fault, clean, breaks, ◌then◌, unless, member, has_all, place_in, first_of}
+use Rattle.format.specs.declared.NameFault.TheVariants.{Bad, Repeated}
+use Rattle.format.specs.declared.BrokenRule.{BrokenRule}
+use Rattle.format.specs.Faults.{Fault, clean, breaks, ◌then◌, unless, member, has_all, first_of}
 use Rattle.format.specs.Headers.{station_names}
 use Rattle.format.specs.Columns.{Sort, ctd, is_flag, parameter_of, has_parameter, required_names, names_of, kind_of_name, kinds_of, name_rules, flag_rules}
 use Rattle.format.specs.Inner.Faults.{name_fault, flag_fault, names_line_fault}
 use Rattle.columns.specs.declared.Cells.{Cells}
 use Rattle.columns.specs.declared.Columns.{Columns}
 use Rattle.format.specs.Inner.Sorts.{sort_for}
-use Rattle.format.specs.Inner.Names.{fault_in, text_in, names_at}
-use Rattle.columns.specs.Inner.Columns.{start_of, Placed, CellsFound, keeps_parameter, filled, columns_refused, columns_by, columns_for, ColumnsRead}
-use Rattle.format.proofs.NameLaws.{names-length, name-given, Within, fault-within, place-test}
-use Rattle.columns.proofs.NamesLineLaws.{start_first, start-later, start-next}
-use Rattle.format.proofs.FaultLaws.{breaks-clean, fault-number}
-use Rattle.format.proofs.NumberLaws.{Numbered, numbered_nonzero, flag_numbered, names_numbered}
+use Rattle.format.specs.Inner.Names.{fault_in, names_at}
+use Rattle.columns.specs.Inner.Columns.{start_of, Placed, CellsFound, keeps_parameter, filled, broken, columns_by, columns_for, ColumnsRead}
+use Rattle.format.proofs.NameLaws.{names-length, position-member, Within, fault-within}
+use Rattle.columns.proofs.NamesLineLaws.{start_first, start-later, start-next, start-column}
+use Rattle.format.proofs.FaultLaws.{breaks-clean}
 use Rattle.format.proofs.NamesLineLaws.{parameter-length}
 use Rattle.format.proofs.RuleLaws.{names_rules}
 
@@ -69,8 +71,8 @@ module _ (n : List ℕ) (p : ℕ) (e : p ≡ parameter_length n) where
       pub keeps-flag : 0 < l → false ≡ keeps_parameter ns n
       keeps-flag h = keeps_by true (lt-ltb 0 l h)
 
-      pub keeps_placed : l ≤ 0 → (m j : ℕ) → length ns ≡ m → j ≡ place_in (take p n) ns → ltb j m ≡ keeps_parameter ns n
-      keeps_placed h m j a b = place-test (take p n) ns m j a b ∙ keeps_by false (le-ltb 0 l h)
+      pub keeps_placed : l ≤ 0 → is_some (position (λ x. equal x (take p n)) ns) ≡ keeps_parameter ns n
+      keeps_placed h = position-member (take p n) ns ∙ keeps_by false (le-ltb 0 l h)
 
 -- ---- rule 13
 pub required-bottle : (b r : Bool) (ns : List (List ℕ)) → b ≡ true → r ≡ has_all station_names ns → r ≡ has_all (required_names (sort_for b)) ns
@@ -83,9 +85,9 @@ and_true : (b : Bool) → b ≡ (b && true)
 and_true true = refl
 and_true false = refl
 
-pub pressure-found : (ns : List (List ℕ)) (n p : ℕ) → length ns ≡ n → p ≡ place_in (bytes "CTDPRS") ns → ltb p n ≡ has_all (required_names ctd) ns
+pub pressure-found : (ns : List (List ℕ)) → is_some (position (λ x. equal x (bytes "CTDPRS")) ns) ≡ has_all (required_names ctd) ns
 unfolding has_all
-pressure-found ns n p h e = place-test (bytes "CTDPRS") ns n p h e ∙ and_true (member (bytes "CTDPRS") ns)
+pressure-found ns = position-member (bytes "CTDPRS") ns ∙ and_true (member (bytes "CTDPRS") ns)
 
 -- ---- an array filled from its start
 set-end : (ks : List ℕ) (z v : ℕ) (zs : List ℕ) → set (ks ++ z ∷ zs) (length ks) v ≡ (ks ++ v ∷ []) ++ zs
@@ -151,54 +153,50 @@ module _ (ts : List (List ℕ)) (k : ℕ) (h : k < length ts) where
         }
 
 -- ---- the turns of the walk over the names
-not_true : (b : Bool) → not b ≡ true → b ≡ false
-not_true true e = absurd (true≢false (sym e))
-not_true false e = refl
-
-not_false : (b : Bool) → not b ≡ false → b ≡ true
-not_false true e = refl
-not_false false e = absurd (true≢false e)
-
-module _ (s : List ℕ) (at n : ℕ) (starts ends : List ℕ) (pl : Placed s at n starts ends) (en : n ≡ length (pieces 44 (line_at s at))) where
+module _ (s : List ℕ) (at : ℕ) (ps : List Span) (pl : Placed s at ps) (en : length ps ≡ length (pieces 44 (line_at s at))) where
   abbrev ts : List (List ℕ)
   ts = pieces 44 (line_at s at)
 
-  pub names-whole : names_at s n starts ends ≡ map trim (pieces 44 (line_at s at))
-  names-whole = pl.names ∙ take_all n (map trim (pieces 44 (line_at s at))) (omega (arith, en, length-map (pieces 44 (line_at s at)) trim))
+  pub names-whole : names_at s ps ≡ map trim (pieces 44 (line_at s at))
+  names-whole = pl.names ∙ take_all (length ps) (map trim (pieces 44 (line_at s at))) (omega (arith, en, length-map (pieces 44 (line_at s at)) trim))
 
-  module _ (k : ℕ) (h : k < n) (of : List ℕ) (w : Kinded ts k of) (t : List ℕ) (et : t ≡ text_in s (get_or starts k 0) (get_or ends k 0))
-      (b : Bool) (eb : b ≡ keeps_parameter (names_at s n starts ends) t) where
+  module _ (k : ℕ) (h : k < length ps) (of : List ℕ) (w : Kinded ts k of) (t : List ℕ) (et : t ≡ get_or (names_at s ps) k [])
+      (b : Bool) (eb : b ≡ keeps_parameter (names_at s ps) t) where
     name-there : t ≡ get_or (map trim ts) k []
-    name-there =
-        name-given s n starts ends k h (rw pl.wide pl.few) (rw pl.broad pl.few) t et
-        ∙ ap (λ (l : List (List ℕ)). get_or l k []) names-whole
+    name-there = et ∙ ap (λ (l : List (List ℕ)). get_or l k []) names-whole
 
     keeps-there : keeps_parameter (map trim ts) (get_or (map trim ts) k []) ≡ b
     keeps-there = sym (eb ∙ ap (λ (l : List (List ℕ)). keeps_parameter l t) names-whole ∙ ap (keeps_parameter (map trim ts)) name-there)
 
-    pub turn-refused : not b ≡ true → flag_fault 1 (map trim ts) ts ≡ breaks 12 (start_of 1 ts k)
-    turn-refused z = kinded-stop ts k (omega (arith, en)) of w (keeps-there ∙ not_true b z)
+    pub turn-refused : b ≡ false → flag_fault 1 (map trim ts) ts ≡ breaks 12 (start_of 1 ts k)
+    turn-refused z = kinded-stop ts k (omega (arith, en)) of w (keeps-there ∙ z)
 
-    pub turn-kept : not b ≡ false → (v : ℕ) → v ≡ kind_of_name t → Kinded ts (k + 1) (set of k v)
-    turn-kept z v e = kinded-more ts k (omega (arith, en)) of w (omega (arith, en, pl.few)) (keeps-there ∙ not_false b z) v (e ∙ ap kind_of_name name-there)
+    pub turn-kept : b ≡ true → (v : ℕ) → v ≡ kind_of_name t → Kinded ts (k + 1) (set of k v)
+    turn-kept z v e = kinded-more ts k (omega (arith, en)) of w (omega (arith, en, pl.few)) (keeps-there ∙ z) v (e ∙ ap kind_of_name name-there)
 
 -- ---- what is handed back
-refused-same : (r : Columns) (m c d : ℕ) → r ≡ columns_refused m c → c ≡ d → r ≡ columns_refused m d
-refused-same r m c d e f = e ∙ ap (columns_refused m) f
+-- a rule that the cell at v, which is cell k of the line, breaks
+module _ (at v : ℕ) (ts : List (List ℕ)) (k : ℕ) (p : v ≡ start_of at ts k) (b : BrokenRule) (n : ℕ) (e : b ≡ broken n (v - at + 1)) where
+  broken-here : b ≡ broken n (start_of 1 ts k)
+  broken-here = e ∙ ap (broken n) (start-column at v ts k p)
+
+  pub kinds-refused : (ns : List (List ℕ)) → flag_fault 1 ns ts ≡ breaks n (start_of 1 ts k) → Err b ≡ columns_by ns (flag_fault 1 ns ts)
+  kinds-refused ns f = rw f (ap Err broken-here)
+
+  pub names-refused : (j : Sort) (x : List ℕ) → names_line_fault j x ≡ breaks n (start_of 1 ts k) → Err b ≡ columns_for j x
+  unfolding columns_for
+  names-refused j x f = rw f (ap Err broken-here)
 
 -- the kinds
-pub kinds-refused : (r : Columns) (c d : ℕ) (ns ts : List (List ℕ)) → r ≡ columns_refused 12 c → c ≡ d → flag_fault 1 ns ts ≡ breaks 12 d → r ≡ columns_by ns (flag_fault 1 ns ts)
-kinds-refused r c d ns ts e f g = rw g (refused-same r 12 c d e f)
-
 pub kinds_done : (ts : List (List ℕ)) (k n : ℕ) (of : List ℕ) → Kinded ts k of → n ≤ k → n ≡ length ts
-    → ◌≡◌ {A = Columns} (record { number = 0; column = 0; count = n; kinds = of }) (columns_by (map trim ts) (flag_fault 1 (map trim ts) ts))
+    → ◌≡◌ {A = Result Columns BrokenRule} (Ok (record { count = n; kinds = of })) (columns_by (map trim ts) (flag_fault 1 (map trim ts) ts))
 unfolding flag_fault flag_rules first_of
 kinds_done ts k n of w h e =
     let a : take k (map trim ts) ≡ map trim ts = take_all k (map trim ts) (rw length-map (omega (arith, w.inside))) in
     let f : flag_fault 1 (map trim ts) ts ≡ clean = w.left ∙ rw (drop_of_length-le ts {i = k} (omega (arith, w.inside))) in
     let c : n ≡ length (map trim ts) = e ∙ sym (length-map ts trim) in
     let o : of ≡ filled (kinds_of (map trim ts)) = w.done ∙ ap (λ (l : List (List ℕ)). filled (kinds_of l)) a in
-    (λ j. record { number = 0; column = 0; count = c j; kinds = o j }) ∙ ap (columns_by (map trim ts)) (sym f)
+    (λ j. Ok (record { count = c j; kinds = o j })) ∙ ap (columns_by (map trim ts)) (sym f)
 
 -- ---- the rules of the names line in their order
 module _ (k : Sort) (x : List ℕ) where
@@ -212,35 +210,32 @@ module _ (k : Sort) (x : List ℕ) where
     rules_required : (b : Bool) → flag_fault 1 (names_of x) (pieces 44 x) ≡ clean → has_all (required_names k) (names_of x) ≡ b → names_line_fault k x ≡ unless b 13 1
     rules_required b f h = names_rules k x ∙ rw (e, f, h)
 
-  pub names-refused : (r : Columns) (m c d : ℕ) → r ≡ columns_refused m c → c ≡ d → names_line_fault k x ≡ breaks m d → r ≡ columns_for k x
-  unfolding columns_for
-  names-refused r m c d e f g = rw g (refused-same r m c d e f)
-
   -- by what the kinds say
-  module _ (e : name_fault 1 [] (pieces 44 x) ≡ clean) (r : Columns) (w : r ≡ columns_by (names_of x) (flag_fault 1 (names_of x) (pieces 44 x))) where
-    pub names-flagged : (r.number ≡ 0 → ⊥) → r ≡ columns_for k x
+  module _ (e : name_fault 1 [] (pieces 44 x) ≡ clean) (r : Result Columns BrokenRule) (w : r ≡ columns_by (names_of x) (flag_fault 1 (names_of x) (pieces 44 x))) where
+    pub names-flagged : (b : BrokenRule) → r ≡ Err b → Err b ≡ columns_for k x
     unfolding columns_for
-    names-flagged z = go (flag_fault 1 (names_of x) (pieces 44 x)) refl w
+    names-flagged b z = go (flag_fault 1 (names_of x) (pieces 44 x)) refl (sym z ∙ w)
       where
-        go : (f : Fault) → flag_fault 1 (names_of x) (pieces 44 x) ≡ f → r ≡ columns_by (names_of x) f → r ≡ columns_by (names_of x) (names_line_fault k x)
-        go clean d v = absurd (z (ap (λ (y : Columns). y.number) v))
+        go : (f : Fault) → flag_fault 1 (names_of x) (pieces 44 x) ≡ f → Err b ≡ columns_by (names_of x) f → Err b ≡ columns_by (names_of x) (names_line_fault k x)
+        go clean d v = absurd cc
         go (breaks m c) d v = rw (rules_flags e m c d) v
 
-    flags-clean : r.number ≡ 0 → flag_fault 1 (names_of x) (pieces 44 x) ≡ clean
-    unfolding flag_fault
-    flags-clean z = go (flag_fault 1 (names_of x) (pieces 44 x)) (flag_numbered 1 (names_of x) (pieces 44 x)) w
-      where
-        go : (f : Fault) → Numbered f → r ≡ columns_by (names_of x) f → f ≡ clean
-        go clean d v = refl
-        go (breaks m c) d v = absurd (numbered_nonzero m c d (sym (ap (λ (y : Columns). y.number) v) ∙ z))
+    module _ (c : Columns) (z : r ≡ Ok c) where
+      flags-clean : flag_fault 1 (names_of x) (pieces 44 x) ≡ clean
+      flags-clean = go (flag_fault 1 (names_of x) (pieces 44 x)) (sym z ∙ w)
+        where
+          go : (f : Fault) → Ok c ≡ columns_by (names_of x) f → f ≡ clean
+          go clean v = refl
+          go (breaks m d) v = absurd cc
 
-    module _ (z : r.number ≡ 0) (b : Bool) (h : has_all (required_names k) (names_of x) ≡ b) where
-      pub names-read : b ≡ true → r ≡ columns_for k x
-      unfolding columns_for
-      names-read g = w ∙ ap (columns_by (names_of x)) (flags-clean z ∙ sym (rules_required e b (flags-clean z) h ∙ rw g))
+      module _ (b : Bool) (h : has_all (required_names k) (names_of x) ≡ b) where
+        pub names-read : b ≡ true → Ok c ≡ columns_for k x
+        unfolding columns_for
+        names-read g = sym z ∙ w ∙ ap (columns_by (names_of x)) (flags-clean ∙ sym (rules_required e b flags-clean h ∙ rw g))
 
-      pub names_lacking : b ≡ false → (v : Columns) → v ≡ columns_refused 13 1 → v ≡ columns_for k x
-      names_lacking g v d = names-refused v 13 1 1 d refl (rules_required e b (flags-clean z) h ∙ rw g)
+        pub names_lacking : b ≡ false → Err (broken 13 1) ≡ columns_for k x
+        unfolding columns_for
+        names_lacking g = let f : names_line_fault k x ≡ breaks 13 1 = rules_required e b flags-clean h ∙ rw g in rw f
 
 -- ---- what a caller has
 names-few : (c : ℕ) (earlier ts : List (List ℕ)) → length earlier ≤ 256 → name_fault c earlier ts ≡ clean → length earlier + length ts ≤ 256
@@ -269,24 +264,42 @@ clean-names k x e = go (name_fault 1 [] (pieces 44 x)) (sym (names_rules k x) �
     go clean e = refl
     go (breaks n c) e = e
 
-pub columns-read : (k : Sort) (x : List ℕ) (r : Columns) → r ≡ columns_for k x → ColumnsRead k x r
-unfolding columns_for names_line_fault
-columns-read k x r e = rw e (go (names_line_fault k x) refl (names_numbered k x))
-  where
-    go : (f : Fault) → names_line_fault k x ≡ f → Numbered f → ColumnsRead k x (columns_by (names_of x) f)
-    go clean d m = record {
-      fault = sym d;
-      few = λ z. omega (arith, names-few 1 [] (pieces 44 x) (omega arith) (clean-names k x d), length-map (pieces 44 x) trim);
-      many = λ z. refl;
-      kinds = λ z. let l : length (names_of x) ≡ length (kinds_of (names_of x)) = sym (length-map (names_of x) kind_of_name) in
-          ap (λ (n : ℕ). take n (filled (kinds_of (names_of x)))) l ∙ take-append_seam (kinds_of (names_of x)) (replicate (256 - length (kinds_of (names_of x))) 0);
-    }
-    go (breaks n c) d m = record {
-      fault = fault-number n c (numbered_nonzero n c m) ∙ sym d;
-      few = λ z. absurd (numbered_nonzero n c m z);
-      many = λ z. absurd (numbered_nonzero n c m z);
-      kinds = λ z. absurd (numbered_nonzero n c m z);
-    }
+module _ (k : Sort) (x : List ℕ) where
+  pub columns-broken : (b : BrokenRule) → columns_for k x ≡ Err b → names_line_fault k x ≡ breaks b.number b.column
+  unfolding columns_for
+  columns-broken b e = go (names_line_fault k x) e
+    where
+      go : (f : Fault) → columns_by (names_of x) f ≡ Err b → f ≡ breaks b.number b.column
+      go clean e = absurd cc
+      go (breaks n c) e = let d : broken n c ≡ b = cc in rw (← d)
+
+  -- a names line that keeps its rules
+  pub columns-kept : names_line_fault k x ≡ clean → columns_for k x ≡ Ok (record { count = length (names_of x); kinds = filled (kinds_of (names_of x)) })
+  unfolding columns_for
+  columns-kept e = rw e
+
+  pub columns-read : (r : Columns) → columns_for k x ≡ Ok r → ColumnsRead k x r
+  unfolding columns_for
+  columns-read r e = subst (ColumnsRead k x) d read
+    where
+      kept : names_line_fault k x ≡ clean
+      kept = go (names_line_fault k x) e
+        where
+          go : (f : Fault) → columns_by (names_of x) f ≡ Ok r → f ≡ clean
+          go clean e = refl
+          go (breaks n c) e = absurd cc
+
+      d : record { count = length (names_of x); kinds = filled (kinds_of (names_of x)) } ≡ r
+      d = let z = sym (columns-kept kept) ∙ e in cc
+
+      read : ColumnsRead k x (record { count = length (names_of x); kinds = filled (kinds_of (names_of x)) })
+      read = record {
+        fault = kept;
+        few = omega (arith, names-few 1 [] (pieces 44 x) (omega arith) (clean-names k x kept), length-map (pieces 44 x) trim);
+        many = refl;
+        kinds = let l : length (names_of x) ≡ length (kinds_of (names_of x)) = sym (length-map (names_of x) kind_of_name) in
+            ap (λ (n : ℕ). take n (filled (kinds_of (names_of x)))) l ∙ take-append_seam (kinds_of (names_of x)) (replicate (256 - length (kinds_of (names_of x))) 0);
+      }
 
 -- ---- 11, 10 and 9: the first fault of the first 256 names, else the 257th cell
 over_fault : ℕ → ℕ → List (List ℕ) → Fault
@@ -306,10 +319,10 @@ over_one c m [] h = absurd (not-suc-le-zero h)
 over_one c zero (t ∷ ts) h = ap (breaks 11) (sym (start_first c (t ∷ ts)))
 over_one c (suc m) (t ∷ ts) h = over_one (c + length t + 1) m ts (le_of_suc-le-suc h) ∙ ap (breaks 11) (sym (start-later c t ts m))
 
-abbrev found_fault_of : (ℕ → ℕ) → Fault → NameFault → Fault
-found_fault_of col f Clean = f
-found_fault_of col f (Bad k) = breaks 10 (col k)
-found_fault_of col f (Repeated k) = breaks 9 (col k)
+abbrev found_fault_of : (ℕ → ℕ) → Fault → Option NameFault → Fault
+found_fault_of col f None = f
+found_fault_of col f (Some (Bad k)) = breaks 10 (col k)
+found_fault_of col f (Some (Repeated k)) = breaks 9 (col k)
 
 names_faults : (col : ℕ → ℕ) (c : ℕ) (earlier ts : List (List ℕ)) (m b : ℕ) → length earlier ≡ b → b + m ≡ 256 → ((j : ℕ) → col (b + j) ≡ start_of c ts j)
     → name_fault c earlier ts ≡ found_fault_of col (over_fault c m ts) (fault_in earlier (take m (map trim ts)) b)
@@ -333,58 +346,59 @@ names_faults col c earlier (t ∷ ts) (suc m) b l g f =
         ≡ found_fault_of col (over_fault (c + length t + 1) m ts) (fault_in (earlier ++ trim t ∷ []) (take m (map trim ts)) (suc b))
         → ((unless p 10 c) then (unless (not q) 9 c) then name_fault (c + length t + 1) (earlier ++ trim t ∷ []) ts)
         ≡ found_fault_of col (over_fault (c + length t + 1) m ts)
-        (cond p (cond q (Repeated b) (fault_in (earlier ++ trim t ∷ []) (take m (map trim ts)) (suc b))) (Bad b))
+        (cond p (cond q (Some (Repeated b)) (fault_in (earlier ++ trim t ∷ []) (take m (map trim ts)) (suc b))) (Some (Bad b)))
     go false q h = ap (breaks 10) (sym here)
     go true true h = ap (breaks 9) (sym here)
     go true false h = h
 
-module _ (s : List ℕ) (at : ℕ) (r : Cells) (w : CellsFound s at r) (f : NameFault) (e : f ≡ fault_in [] (names_at s r.count r.starts r.ends) 0) where
+module _ (s : List ℕ) (at : ℕ) (r : Cells) (w : CellsFound s at r) (f : Option NameFault) (e : f ≡ fault_in [] (names_at s (take r.count r.places)) 0) where
+  pub places-long : length (take r.count r.places) ≡ r.count
+  places-long = length-take-le r.count r.places (omega (arith, w.wide, w.few))
+
   first-names : take r.count (map trim (pieces 44 (line_at s at))) ≡ take 256 (map trim (pieces 44 (line_at s at)))
-  first-names = go (eqb r.over 0) refl
+  first-names = go r.over refl
     where
-      go : (b : Bool) → eqb r.over 0 ≡ b → take r.count (map trim (pieces 44 (line_at s at))) ≡ take 256 (map trim (pieces 44 (line_at s at)))
-      go true z =
-          let l : length (map trim (pieces 44 (line_at s at))) ≡ r.count = length-map (pieces 44 (line_at s at)) trim ∙ sym (w.all (eqb-true r.over 0 z)) in
+      go : (o : Option ℕ) → r.over ≡ o → take r.count (map trim (pieces 44 (line_at s at))) ≡ take 256 (map trim (pieces 44 (line_at s at)))
+      go None z =
+          let l : length (map trim (pieces 44 (line_at s at))) ≡ r.count = length-map (pieces 44 (line_at s at)) trim ∙ sym (w.all z) in
           take_all r.count (map trim (pieces 44 (line_at s at))) (omega arith)
-          ∙ sym (take_all 256 (map trim (pieces 44 (line_at s at))) (omega (arith, w.placed.few)))
-      go false z = ap (λ (n : ℕ). take n (map trim (pieces 44 (line_at s at)))) (w.more (eqb-false r.over 0 z)).0
+          ∙ sym (take_all 256 (map trim (pieces 44 (line_at s at))) (omega (arith, w.few)))
+      go (Some i) z = ap (λ (n : ℕ). take n (map trim (pieces 44 (line_at s at)))) (w.more i z).0
 
   faults-found : name_fault 1 [] (pieces 44 (line_at s at)) ≡ found_fault_of (start_of 1 (pieces 44 (line_at s at))) (over_fault 1 256 (pieces 44 (line_at s at))) f
   faults-found =
       names_faults (start_of 1 (pieces 44 (line_at s at))) 1 [] (pieces 44 (line_at s at)) 256 0 refl refl
       (λ j. let q : 0 + j ≡ j = omega arith in ap (start_of 1 (pieces 44 (line_at s at))) q)
       ∙ ap (found_fault_of (start_of 1 (pieces 44 (line_at s at))) (over_fault 1 256 (pieces 44 (line_at s at))))
-      (ap (λ (l : List (List ℕ)). fault_in [] l 0) (sym (w.placed.names ∙ first-names)) ∙ sym e)
+      (ap (λ (l : List (List ℕ)). fault_in [] l 0) (sym (w.placed.names ∙ ap (λ (n : ℕ). take n (map trim (pieces 44 (line_at s at)))) places-long ∙ first-names)) ∙ sym e)
 
-  index-within : Within f r.count
+  index-within : Within f (length (take r.count r.places))
   index-within =
-      let z : 0 + length (names_at s r.count r.starts r.ends) ≡ r.count =
-      (let y = names-length s r.count r.starts r.ends (rw w.placed.wide w.placed.few) (rw w.placed.broad w.placed.few) in omega arith) in
-      subst (Within f) z (rw e (fault-within [] (names_at s r.count r.starts r.ends) 0))
+      let z : 0 + length (names_at s (take r.count r.places)) ≡ length (take r.count r.places) = (let y = names-length s (take r.count r.places) in omega arith) in
+      subst (Within f) z (rw e (fault-within [] (names_at s (take r.count r.places)) 0))
 
-  pub bad-within : (k : ℕ) → f ≡ Bad k → k < r.count
+  pub bad-within : (k : ℕ) → f ≡ Some (Bad k) → k < length (take r.count r.places)
   bad-within k p = rw p at index-within
 
-  pub repeated-within : (k : ℕ) → f ≡ Repeated k → k < r.count
+  pub repeated-within : (k : ℕ) → f ≡ Some (Repeated k) → k < length (take r.count r.places)
   repeated-within k p = rw p at index-within
 
-  pub bad-found : (k : ℕ) → f ≡ Bad k → name_fault 1 [] (pieces 44 (line_at s at)) ≡ breaks 10 (start_of 1 (pieces 44 (line_at s at)) k)
+  pub bad-found : (k : ℕ) → f ≡ Some (Bad k) → name_fault 1 [] (pieces 44 (line_at s at)) ≡ breaks 10 (start_of 1 (pieces 44 (line_at s at)) k)
   bad-found k p = faults-found ∙ rw p
 
-  pub repeated-found : (k : ℕ) → f ≡ Repeated k → name_fault 1 [] (pieces 44 (line_at s at)) ≡ breaks 9 (start_of 1 (pieces 44 (line_at s at)) k)
+  pub repeated-found : (k : ℕ) → f ≡ Some (Repeated k) → name_fault 1 [] (pieces 44 (line_at s at)) ≡ breaks 9 (start_of 1 (pieces 44 (line_at s at)) k)
   repeated-found k p = faults-found ∙ rw p
 
-  module _ (p : f ≡ Clean) where
-    pub many-found : (r.over ≡ 0 → ⊥) → name_fault 1 [] (pieces 44 (line_at s at)) ≡ breaks 11 (start_of 1 (pieces 44 (line_at s at)) 256)
-    many-found n = faults-found ∙ rw p (over_one 1 256 (pieces 44 (line_at s at)) (w.more n).1)
+  module _ (p : f ≡ None) where
+    pub many-found : (i : ℕ) → r.over ≡ Some i → name_fault 1 [] (pieces 44 (line_at s at)) ≡ breaks 11 (start_of 1 (pieces 44 (line_at s at)) 256)
+    many-found i z = faults-found ∙ rw p (over_one 1 256 (pieces 44 (line_at s at)) (w.more i z).1)
 
-    module _ (z : r.over ≡ 0) where
+    module _ (z : r.over ≡ None) where
       pub none_found : name_fault 1 [] (pieces 44 (line_at s at)) ≡ clean
-      none_found = faults-found ∙ rw p (over_none 1 256 (pieces 44 (line_at s at)) (omega (arith, w.all z, w.placed.few)))
+      none_found = faults-found ∙ rw p (over_none 1 256 (pieces 44 (line_at s at)) (omega (arith, w.all z, w.few)))
 
-      names-found : names_at s r.count r.starts r.ends ≡ names_of (line_at s at)
-      names-found = names-whole s at r.count r.starts r.ends w.placed (w.all z)
+      names-found : names_at s (take r.count r.places) ≡ names_of (line_at s at)
+      names-found = names-whole s at (take r.count r.places) w.placed (places-long ∙ w.all z)
 
-      pub names_required : (k : Sort) (q b : Bool) → q ≡ has_all (required_names k) (names_at s r.count r.starts r.ends) → q ≡ b
-          → has_all (required_names k) (names_of (line_at s at)) ≡ b
-      names_required k q b h v = ap (has_all (required_names k)) (sym names-found) ∙ sym h ∙ v
+      pub names_required : (k : Sort) (q : Bool) → q ≡ has_all (required_names k) (names_at s (take r.count r.places)) → has_all (required_names k) (names_of (line_at s at)) ≡ q
+      names_required k q h = ap (has_all (required_names k)) (sym names-found) ∙ sym h

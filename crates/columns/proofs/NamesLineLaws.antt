@@ -6,23 +6,23 @@ use mathlib.Core.List.{List, [], ◌∷◌, ◌++◌}
 use native.Mathlib.Numerals.{add-one}
 use native.Mathlib.Nat.{not-suc-le-zero, le_of_suc-le-suc}
 use native.Mathlib.Omega.{arith}
-use lib.ListN.{length, get_or, take, drop, set, length-drop, length-set, length-map, drop_of_length-le, get_or-map}
-use lib.Seq.{take-suc, drop-drop, get_or-drop, get_or-set_same, get_or-set_other}
+use lib.ListN.{length, get_or, take, drop, set, length-drop, length-set, length-map, length-append, drop_of_length-le, get_or-map}
+use lib.Seq.{take-suc, drop-drop, get_or-drop, length-take-le}
+use Rattle.std.proofs.Math.Seq.{take-suc-set}
+use Rattle.std.proofs.lemmas.List.{map-append}
 use lib.Dec.{eqb, leb}
-use borrow.Author.Tests.{le-leb, lt-leb, eqb-true, eqb-false, leb-true, leb-false}
-use borrow.Author.Count.{below_more}
+use borrow.Author.Tests.{eqb-true, eqb-false, leb-true, leb-false}
 use Rattle.line_bytes.specs.declared.Span.{Span}
 use Rattle.line_bytes.specs.Cells.{first_piece, later_pieces, pieces, line_at, cell_at, cell_end}
 use Rattle.line_bytes.specs.Spaces.{trim_front, trim_end, trim}
 use Rattle.line_bytes.proofs.CellLaws.{cell_end_from}
 use Rattle.line_bytes.proofs.SpaceLaws.{span_past, span-bytes}
 use Rattle.format.specs.Columns.{names_of}
-use Rattle.format.specs.Inner.Names.{text_in, names_at}
+use Rattle.format.specs.Inner.Names.{text_in}
 use Rattle.format.specs.Grid.{starts}
 use Rattle.columns.specs.Inner.Columns.{start_of, is_last, Placed}
 use Rattle.format.proofs.RunLaws.{piece_in}
 use Rattle.format.proofs.GridWalkLaws.{cell-slice, cells-ended, cells-fed, cells_parted, end_past}
-use Rattle.format.proofs.NameLaws.{names-set}
 
 -- ---- a list from place n on
 module _ {A : Type 0} (l : List A) (n : ℕ) (x : A) (r : List A) (e : drop n l ≡ x ∷ r) where
@@ -110,44 +110,47 @@ module _ (s : List ℕ) (i : ℕ) where
                 ∙ ap (λ (n : ℕ). cell_at 44 s i ∷ pieces 44 (line_at s (n + 1))) (sym e),
           )
 
--- the test for it
-module _ (s : List ℕ) (q : ℕ) where
-  pub last_past : length s ≤ q → true ≡ is_last s q
-  unfolding is_last
-  last_past h = rw (le-leb (length s) q h)
-
-  pub last-fed : q < length s → eqb (get_or s q 0) 10 ≡ is_last s q
-  unfolding is_last
-  last-fed h = rw (lt-leb (length s) q h)
-
 -- ---- one more cell
--- the walk over the cells: n of them are placed, and the next starts at i
-pub record Walked (s : List ℕ) (at i n : ℕ) (begins ends : List ℕ) : Type 0 where
-  pub placed : Placed s at n begins ends
+-- the walk over the cells: the first n places are theirs, and the next starts at i
+pub record Walked (s : List ℕ) (at i n : ℕ) (ps : List Span) : Type 0 where
+  pub wide : length ps ≡ 256
+  pub few : n ≤ 256
+  pub placed : Placed s at (take n ps)
   pub left : drop n (pieces 44 (line_at s at)) ≡ pieces 44 (line_at s i)
   pub here : i ≡ start_of at (pieces 44 (line_at s at)) n
   pub later : n ≤ i
   pub near : i ≤ at + length s
 
-pub walked_none : (s : List ℕ) (at : ℕ) (begins ends : List ℕ) → length begins ≡ 256 → length ends ≡ 256 → Walked s at at 0 begins ends
-unfolding names_at
-walked_none s at begins ends a b =
+pub walked_none : (s : List ℕ) (at : ℕ) (ps : List Span) → length ps ≡ 256 → Walked s at at 0 ps
+walked_none s at ps a =
     record {
-      placed = record {
+      wide = a;
+      few = omega arith;
+      placed = subst (Placed s at) (sym (none ps)) (record {
         few = omega arith;
-        wide = a;
-        broad = b;
         names = refl;
-        begin = λ k h. absurd (not-suc-le-zero h);
-        inside = λ k h. absurd (not-suc-le-zero h);
-      };
+        begin = λ k d h. absurd (not-suc-le-zero h);
+        inside = λ k d h. absurd (not-suc-le-zero h);
+      });
       left = refl;
       here = sym (start_first at (pieces 44 (line_at s at)));
       later = omega arith;
       near = omega arith;
     }
+  where
+    none : (ps : List Span) → take 0 ps ≡ []
+    none [] = refl
+    none (p ∷ ps) = refl
 
-module _ (s : List ℕ) (at i n : ℕ) (begins ends : List ℕ) (w : Walked s at i n begins ends) where
+-- what holds of some places, and of one more
+more-placed : (P : ℕ → Span → Type 0) (ps : List Span) (p : Span) → ((k : ℕ) (d : Span) → k < length ps → P k (get_or ps k d)) → P (length ps) p
+    → (k : ℕ) (d : Span) → k < length (ps ++ p ∷ []) → P k (get_or (ps ++ p ∷ []) k d)
+more-placed P [] p f x zero d h = x
+more-placed P [] p f x (suc k) d h = absurd (not-suc-le-zero (le_of_suc-le-suc h))
+more-placed P (q ∷ ps) p f x zero d h = f 0 d (omega arith)
+more-placed P (q ∷ ps) p f x (suc k) d h = more-placed (λ (j : ℕ). P (suc j)) ps p (λ j e l. f (suc j) e (omega arith)) x k d (le_of_suc-le-suc h)
+
+module _ (s : List ℕ) (at i n : ℕ) (ps : List Span) (w : Walked s at i n ps) where
   abbrev ts : List (List ℕ)
   ts = pieces 44 (line_at s at)
 
@@ -155,36 +158,32 @@ module _ (s : List ℕ) (at i n : ℕ) (begins ends : List ℕ) (w : Walked s at
   walked_more = omega (arith, rest-long ts n (cell_at 44 s i) (later_pieces 44 (line_at s i)) w.left)
 
   module _ (h : n < 256) (q : ℕ) (eq : q ≡ cell_end 44 s i) where
-    name-here : text_in s i q ≡ get_or (names_of (line_at s at)) n []
+    name-here : text_in s i (i + (q - i)) ≡ get_or (names_of (line_at s at)) n []
     unfolding trim trim_front trim_end
     name-here =
-        cell-text s i q eq
+        let z : i + (q - i) ≡ q = omega (arith, eq, cell_end_from 44 s i) in
+        ap (text_in s i) z ∙ cell-text s i q eq
         ∙ ap trim (sym (rest-first ts n (cell_at 44 s i) (later_pieces 44 (line_at s i)) w.left []))
         ∙ sym (get_or-map trim ts n [])
 
-    set_below : (l : List ℕ) (v : ℕ) (P : ℕ → ℕ → Type 0) → n < length l → ((k : ℕ) → k < n → P k (get_or l k 0)) → P n v → (k : ℕ) → k < n + 1 → P k (get_or (set l n v) k 0)
-    set_below l v P g f x =
-        below_more (λ (k : ℕ). P k (get_or (set l n v) k 0)) n
-        (λ k m. subst (P k) (sym (get_or-set_other l n k v 0 (λ z. omega arith))) (f k m))
-        (subst (P n) (sym (get_or-set_same l n v 0 g)) x)
+    one_more : take (n + 1) (set ps n (record { start = i; len = q - i })) ≡ take n ps ++ (record { start = i; len = q - i }) ∷ []
+    one_more = rw (add-one n) (take-suc-set ps n (record { start = i; len = q - i }) (omega (arith, w.wide)))
 
-    pub placed-more : Placed s at (n + 1) (set begins n i) (set ends n q)
+    pub placed-more : Placed s at (take (n + 1) (set ps n (record { start = i; len = q - i })))
     placed-more =
         let p = w.placed in
-        let g : n < length begins = rw p.wide h in
-        let k : n < length ends = rw p.broad h in
+        let m : length (take n ps) ≡ n = length-take-le n ps (omega (arith, w.wide)) in
         let z : n < length (names_of (line_at s at)) = rw length-map walked_more in
-        record {
-          few = omega arith;
-          wide = length-set begins n i ∙ p.wide;
-          broad = length-set ends n q ∙ p.broad;
-          names = names-set s n begins ends i q g k
-              ∙ ap (λ (x : List (List ℕ)). x ++ text_in s i q ∷ []) p.names
+        let l : length (take n ps ++ (record { start = i; len = q - i }) ∷ []) ≡ n + 1 = length-append (take n ps) ((record { start = i; len = q - i }) ∷ []) ∙ ap (λ (x : ℕ). x + 1) m in
+        subst (Placed s at) (sym one_more) (record {
+          few = omega (arith, l);
+          names = map-append (λ (p : Span). text_in s p.start (p.start + p.len)) (take n ps) ((record { start = i; len = q - i }) ∷ [])
+              ∙ ap (λ (x : List (List ℕ)). x ++ text_in s i (i + (q - i)) ∷ []) (p.names ∙ ap (λ (x : ℕ). take x (names_of (line_at s at))) m)
               ∙ ap (λ (x : List ℕ). take n (names_of (line_at s at)) ++ x ∷ []) name-here
-              ∙ sym (ap (λ (m : ℕ). take m (names_of (line_at s at))) (add-one n) ∙ take-suc (names_of (line_at s at)) n [] z);
-          begin = set_below begins i (λ (k v : ℕ). v ≡ start_of at ts k) g p.begin w.here;
-          inside = set_below begins i (λ (k v : ℕ). v ≤ at + length s) g p.inside w.near;
-        }
+              ∙ sym (ap (λ (x : ℕ). take x (names_of (line_at s at))) (l ∙ add-one n) ∙ take-suc (names_of (line_at s at)) n [] z);
+          begin = more-placed (λ (k : ℕ) (x : Span). x.start ≡ start_of at ts k) (take n ps) (record { start = i; len = q - i }) p.begin (w.here ∙ ap (start_of at ts) (sym m));
+          inside = more-placed (λ (k : ℕ) (x : Span). x.start ≤ at + length s) (take n ps) (record { start = i; len = q - i }) p.inside w.near;
+        })
 
     -- the cell is the last
     pub walked-last : is_last s q ≡ true → n + 1 ≡ length ts
@@ -193,13 +192,15 @@ module _ (s : List ℕ) (at i n : ℕ) (begins ends : List ℕ) (w : Walked s at
     pub walked-room : is_last s q ≡ false → q < length s
     walked-room f = (cells-more s i q eq f).0
 
-    pub walked_on_lem : is_last s q ≡ false → Walked s at (q + 1) (n + 1) (set begins n i) (set ends n q)
+    pub walked_on_lem : is_last s q ≡ false → Walked s at (q + 1) (n + 1) (set ps n (record { start = i; len = q - i }))
     unfolding cell_end
     walked_on_lem f =
         let m = cells-more s i q eq f in
         let start : start_of at ts (n + 1) ≡ start_of at ts n + length (cell_at 44 s i) + 1 =
         start-next at ts n walked_more ∙ ap (λ (x : List ℕ). start_of at ts n + length x + 1) (rest-first ts n (cell_at 44 s i) (later_pieces 44 (line_at s i)) w.left []) in
         record {
+          wide = length-set ps n (record { start = i; len = q - i }) ∙ w.wide;
+          few = omega arith;
           placed = placed-more;
           left = rest-later ts n (cell_at 44 s i) (pieces 44 (line_at s (q + 1))) (w.left ∙ m.1);
           here = rw start (ap (λ (x : ℕ). x + 1) (eq ∙ ap (λ (x : ℕ). x + length (cell_at 44 s i)) w.here));

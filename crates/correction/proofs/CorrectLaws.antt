@@ -6,10 +6,12 @@ use mathlib.Core.Bool.{Bool, true, false, cond, not, ◌||◌}
 use native.Mathlib.Omega.{arith}
 use lib.ListN.{length, drop, replicate, length-append, length-take, length-drop, length-map}
 use lib.Dec.{ltb}
-use borrow.Author.Tests.{ne_eqb}
+use Rattle.std.specs.Prelude.{Option, Some, None, IfSome, Err}
+use Rattle.std.specs.Bool.{then_some}
 use Rattle.line_bytes.specs.declared.Span.{Span}
 use Rattle.line_bytes.specs.Names.{begins_ctd}
 use Rattle.format.specs.declared.Located.{Located}
+use Rattle.format.specs.declared.Refusal.{Refusal}
 use Rattle.format.specs.Grid.{nowhere}
 use Rattle.format.specs.Columns.{kind_of_name}
 use Rattle.format.specs.Places.{Table, Outcome, accepted, refused, outcome_of}
@@ -26,16 +28,15 @@ use Rattle.numbers.proofs.TextLaws.{number-some}
 use Rattle.format.proofs.InsideLaws.{Inside as There}
 use Rattle.laws.proofs.AskedLaws.{there-inside}
 use Rattle.orders.specs.declared.Answer.TheVariants.{Applied, Refused}
-use Rattle.correction.specs.declared.deciding.Decision.{Decision}
 use Rattle.correction.specs.declared.writing.CellPlaces.{CellPlaces}
 use Rattle.orders.specs.declared.Order.{Order}
 use Rattle.orders.specs.Corrections.{entry, no_such_cell, bad_flag, any_longer, text_too_long, test, tests_of, own_text, answer_by, answer_of, Fill, fill, fill_at, fills_by, fills_of, filled, corrected_of}
-use Rattle.correction.specs.Inner.Writing.{Writes, fills_at}
-use Rattle.correction.specs.Inner.Deciding.{first_number, tests_at, Decides}
+use Rattle.correction.specs.Inner.Writing.{Writes, flag_fills, fills_at}
+use Rattle.correction.specs.Inner.Deciding.{first_broken, tests_at, Applies, Decides}
 use Rattle.orders.proofs.FlagLaws.{flag_in_lem}
 use Rattle.orders.proofs.GeometryLaws.{shape, begin, width_at, width-cell, Inside, inside_of}
 use Rattle.orders.proofs.TestLaws.{first-here, first-later}
-use Rattle.correction.proofs.FirstNumberLaws.{by_number, first-number}
+use Rattle.correction.proofs.FirstBrokenLaws.{by_number, first-broken}
 use Rattle.orders.proofs.PlanLaws.{span-inside, place_shape, text-place, line_of, answer_view, decide}
 use Rattle.orders.proofs.FitLaws.{Asked, applied-asked, goods}
 
@@ -51,7 +52,7 @@ module _ (f : List ℕ) (o : Order) (x : Located) (e : x ≡ located_of f o.row 
   abbrev Is : Outcome → Type 0
   Is p = x ≡ located_by f o.row o.column (asked_by o.row o.column p)
 
-  answer-refused : (x.number ≡ 0 → ⊥) → answer_of f o ≡ Refused x.number x.line x.column
+  pub answer-refused : (x.number ≡ 0 → ⊥) → answer_of f o ≡ Refused x.number x.line x.column
   unfolding answer_of located_of asked_of
   answer-refused z = go (outcome_of f) e
     where
@@ -106,6 +107,10 @@ at_right-some : (w x : ℕ) → length (at_right w (x ∷ [])) ≡ w → 1 ≤ w
 unfolding at_right
 at_right-some w x e = omega (arith, length-append (replicate (w - 1) 32) (x ∷ []), e)
 
+-- the places of the cells to write
+abbrev places_of : Located → CellPlaces
+places_of x = record { value = x.value; flag = then_some x.flagged x.flag }
+
 -- ---- the answer and the writes, where row and column are there
 module _ (f : List ℕ) (o : Order) (x : Located) (h : Here f o x) where
   abbrev t : Table
@@ -129,30 +134,27 @@ module _ (f : List ℕ) (o : Order) (x : Located) (h : Here f o x) where
       or_false true = refl
       or_false false = refl
 
-  tests-here : first_number (drop 1 (tests_of t h.rows (own_text t f o) o)) ≡ first_number (tests_at x o)
+  tests-here : first_broken (drop 1 (tests_of t h.rows (own_text t f o) o)) ≡ first_broken (tests_at x o)
   unfolding bad_flag
-  tests-here = rw too_wide (sym (ap (λ (y : Located). first_number (tests_at y o)) h.is))
+  tests-here = rw too_wide (sym (ap (λ (y : Located). first_broken (tests_at y o)) h.is))
 
-  answer-here : answer_of f o ≡ by_number (first_number (tests_at x o))
+  answer-here : answer_of f o ≡ by_number (first_broken (tests_at x o))
   unfolding answer_of
   answer-here =
       let later = drop 1 (tests_of t h.rows (own_text t f o) o) in
       ap (answer_by f o) h.accepts
       ∙ first-later (test 21 (no_such_cell t h.rows o)) later (ap not h.there)
-      ∙ first-number later refl
+      ∙ first-broken later
       ∙ ap by_number tests-here
 
-  abbrev places : CellPlaces
-  places = record { value = x.value; flagged = x.flagged; flag = x.flag }
-
-  fills-here : fills_of f o ≡ fills_at places o
+  fills-here : fills_of f o ≡ fills_at (places_of x) o
   fills-here =
       ap (fills_by f o) h.accepts
       ∙ ap (λ (xs : List Fill). fill (cell_place t f o.row column) (number_text o.millionths o.decimals) ∷ xs) (flags (has_flag t column))
-      ∙ sym (ap (λ (y : Located). fills_at (record { value = y.value; flagged = y.flagged; flag = y.flag }) o) h.is)
+      ∙ sym (ap (λ (y : Located). fills_at (places_of y) o) h.is)
     where
       flags : (b : Bool) → map (fill_at t f o.row) (cond b (entry (flag_column t column) (flag_text o.flag) ∷ []) [])
-          ≡ cond b (fill (cond b (cell_place t f o.row (flag_column t column)) nowhere) (flag_text o.flag) ∷ []) []
+          ≡ flag_fills (then_some b (cond b (cell_place t f o.row (flag_column t column)) nowhere)) o.flag
       flags true = refl
       flags false = refl
 
@@ -175,17 +177,21 @@ module _ (f : List ℕ) (o : Order) (x : Located) (h : Here f o x) where
           rw b (place-cell f t h.rows o.row (flag_column t column) h.accepts in_table_lem.row in_table_lem.rows w.some w.most (flag_text o.flag) (omega arith) (flag_width b)),
         )
 
-    writes-table : Writes f (record { value = cell_place t f o.row column; flagged = has_flag t column; flag = flag_place t f o.row column }) o
+    writes-table : Writes f (places_of (located_by f o.row column (found t))) o
     writes-table = record {
       few = asks.value.number.few;
       number =
           place-cell f t h.rows o.row column h.accepts in_table_lem.row in_table_lem.rows in_table_lem.column in_table_lem.columns _
           (number-some o.millionths o.decimals) asks.value.fits;
-      digit = flag_cell;
+      digit = if_flagged (has_flag t column) (flag_place t f o.row column) _ flag_cell;
     }
+      where
+        if_flagged : (b : Bool) (q : Span) (P : Span → Type 0) → (b ≡ true → P q) → IfSome (then_some b q) P
+        if_flagged true q P k = k refl
+        if_flagged false q P k = tt
 
-    writes-here : Writes f places o
-    writes-here = subst (λ (y : Located). Writes f (record { value = y.value; flagged = y.flagged; flag = y.flag }) o) (sym h.is) writes-table
+    writes-here : Writes f (places_of x) o
+    writes-here = subst (λ (y : Located). Writes f (places_of y) o) (sym h.is) writes-table
 
 -- ---- the bytes left
 corrected-kept : (f : List ℕ) (o : Order) (a b c : ℕ) → answer_of f o ≡ Refused a b c → f ≡ corrected_of f o
@@ -196,44 +202,24 @@ corrected-filled : (f : List ℕ) (o : Order) → answer_of f o ≡ Applied → 
 unfolding corrected_of
 corrected-filled f o e = rw e
 
--- ---- the returns of decide: the refusal of locate, or the number k of the first test that holds
-abbrev decision_of : Located → ℕ → ℕ → ℕ → Decision
-decision_of x number line column = record {
-  number = number;
-  line = line;
-  column = column;
-  places = record { value = x.value; flagged = x.flagged; flag = x.flag };
-}
+-- ---- the returns of decide: the refusal of locate, the number k of the first test that holds, or the places
+module _ {f : List ℕ} {o : Order} {x : Located} (h : Here f o x) where
+  pub decides-broken : {k : ℕ} → Some k ≡ first_broken (tests_at x o) → answer_of f o ≡ Refused k 0 0
+  decides-broken b = answer-here f o x h ∙ ap by_number (sym b)
 
-pub decides-refused : {f : List ℕ} {o : Order} {x : Located} → x ≡ located_of f o.row o.column → (x.number ≡ 0 → ⊥) → Decides f o (decision_of x x.number x.line x.column)
-decides-refused {f} {o} {x} e z = record { refused = answer-refused f o x e; applied = λ k. absurd (z k) }
-
-module _ {f : List ℕ} {o : Order} {x : Located} (h : Here f o x) {k : ℕ} (b : k ≡ first_number (tests_at x o)) where
-  by_code : answer_of f o ≡ by_number k
-  by_code = answer-here f o x h ∙ ap by_number (sym b)
-
-  answer_broken : (k ≡ 0 → ⊥) → answer_of f o ≡ Refused k 0 0
-  answer_broken z = by_code ∙ rw (ne_eqb k 0 z)
-
-  answer-applied : k ≡ 0 → answer_of f o ≡ Applied
-  answer-applied z = by_code ∙ rw z
-
-  pub decides-here : Decides f o (decision_of x k 0 0)
-  decides-here = record {
-    refused = answer_broken;
-    applied = λ z. record {
-      answer = answer-applied z;
-      line = refl;
-      column = refl;
-      writes = writes-here f o x h (answer-applied z);
-      fills = sym (ap (λ (xs : List Fill). filled xs f) (fills-here f o x h)) ∙ corrected-filled f o (answer-applied z);
-    };
-  }
+  pub decides-here : None ≡ first_broken (tests_at x o) → (q : Option Span) → q ≡ then_some x.flagged x.flag → Applies f o (record { value = x.value; flag = q })
+  decides-here b q e = rw e (record {
+    answer = applied;
+    writes = writes-here f o x h applied;
+    fills = sym (ap (λ (xs : List Fill). filled xs f) (fills-here f o x h)) ∙ corrected-filled f o applied;
+  })
+    where
+      applied : answer_of f o ≡ Applied
+      applied = answer-here f o x h ∙ ap by_number (sym b)
 
 -- ---- the returns of correct
-module _ {f : List ℕ} {o : Order} {d : Decision} (h : Decides f o d) where
-  pub correct-refused : (d.number ≡ 0 → ⊥) → (Refused d.number d.line d.column ≡ answer_of f o) × (f ≡ corrected_of f o)
-  correct-refused z = let e = h.refused z in (sym e, corrected-kept f o _ _ _ e)
+pub correct-refused : (f : List ℕ) (o : Order) {e : Refusal} → Decides f o (Err e) → (Refused e.number e.line e.column ≡ answer_of f o) × (f ≡ corrected_of f o)
+correct-refused f o h = (sym h, corrected-kept f o _ _ _ h)
 
-  pub correct-applied : {g : List ℕ} → d.number ≡ 0 → g ≡ filled (fills_at d.places o) f → (Applied ≡ answer_of f o) × (g ≡ corrected_of f o)
-  correct-applied z q = let a = h.applied z in (sym a.answer, q ∙ a.fills)
+pub correct-applied : {f g : List ℕ} {o : Order} {p : CellPlaces} → Applies f o p → g ≡ filled (fills_at p o) f → (Applied ≡ answer_of f o) × (g ≡ corrected_of f o)
+correct-applied h q = (sym h.answer, q ∙ h.fills)

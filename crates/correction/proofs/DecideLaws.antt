@@ -10,11 +10,10 @@ use mir.Syntax.{w64}
 use mir.Val.{to_z, of_z, SFits}
 use mir.ValLaws.{to_z-of_z}
 use borrow.Author.Tests.{lt-ltb, le-ltb, ltb-false}
-use Rattle.verdicts.specs.Judge.{in_set}
 use Rattle.numbers.specs.Texts.{size, number_text, text_length}
 use Rattle.numbers.proofs.TextLaws.{length_is}
 use Rattle.orders.specs.declared.Order.{Order}
-use Rattle.orders.specs.Corrections.{bad_number, wrong_flag}
+use Rattle.orders.specs.Corrections.{bad_number}
 use Rattle.correction.proofs.WriteLaws.{number_as}
 
 -- ---- 23, with the number's size n as the code has it
@@ -54,10 +53,3 @@ module _ (o : Order) where
       first : (a b : Bool) → (a || b) ≡ false → a ≡ false
       first true b e = e
       first false b e = refl
-
--- ---- 24
-pub flag-some : (b ctd : Bool) (v : ℕ) → b ≡ true → not (in_set ctd v) ≡ wrong_flag b ctd v
-flag-some b ctd v e = rw e
-
-pub flag-none : (b ctd : Bool) (v : ℕ) → b ≡ false → not (eqb v 0) ≡ wrong_flag b ctd v
-flag-none b ctd v e = rw e

@@ -1,4 +1,4 @@
 pub mod CorrectLaws
 pub mod DecideLaws
-pub mod FirstNumberLaws
+pub mod FirstBrokenLaws
 pub mod WriteLaws

@@ -1,8 +1,7 @@
 -- The cells of a measurement written: a number by the code's sign and size, the digit of its flag, and both cells filled.
 use Prim.Native.Nat.{ℕ, ◌≤◌}
 use mathlib.Core.Path.{◌≡◌, ap, ◌∙◌}
-use mathlib.Core.List.{List, [], ◌∷◌}
-use mathlib.Core.Bool.{Bool, true, false, cond}
+use mathlib.Core.List.{List, ◌∷◌}
 use lib.IntN.{ℤ, pos}
 use lib.Signed.{lt_z}
 use mir.Syntax.{w64}
@@ -15,6 +14,8 @@ use Rattle.numbers.specs.Inner.Puts.{InCell}
 use Rattle.numbers.proofs.SizeLaws.{below_is}
 use Rattle.numbers.proofs.PatchLaws.{number_is, digit_is}
 use Rattle.orders.specs.Corrections.{fill, filled}
+use Rattle.correction.specs.Inner.Writing.{flag_fills}
+use Rattle.std.specs.Prelude.{Option, Some, None}
 
 -- a number by the code's sign and size
 module _ (m : ℤ) (d n : ℕ) (s : SFits w64 m) (e : n ≡ size (to_z w64 (of_z w64 m))) where
@@ -33,11 +34,11 @@ pub flag-set : (f : List ℕ) {g : List ℕ} (p : Span) (v : ℕ) → (v ≤ 9) 
 flag-set f {g} p v i k = k ∙ digit_is f p v i.0 i.1
 
 -- the cells of a measurement filled, with its flag and without
-module _ (f : List ℕ) (p q : Span) (b : Bool) (t u : List ℕ) where
-  pub filled_both : {g h : List ℕ} → b ≡ true → g ≡ patch f p.start (at_right p.len t) → h ≡ patch g q.start (at_right q.len u) → h ≡ filled (fill p t ∷ cond b (fill q u ∷ []) []) f
+module _ (f : List ℕ) (p : Span) (t : List ℕ) (v : ℕ) (o : Option Span) where
+  pub filled_both : {g h : List ℕ} {q : Span} → o ≡ Some q → g ≡ patch f p.start (at_right p.len t) → h ≡ patch g q.start (at_right q.len (flag_text v)) → h ≡ filled (fill p t ∷ flag_fills o v) f
   unfolding filled
-  filled_both {g} {h} e x y = rw e (y ∙ ap (λ (z : List ℕ). patch z q.start (at_right q.len u)) x)
+  filled_both {g} {h} {q} e x y = rw e (y ∙ ap (λ (z : List ℕ). patch z q.start (at_right q.len (flag_text v))) x)
 
-  pub filled-value : {g : List ℕ} → b ≡ false → g ≡ patch f p.start (at_right p.len t) → g ≡ filled (fill p t ∷ cond b (fill q u ∷ []) []) f
+  pub filled-value : {g : List ℕ} → o ≡ None → g ≡ patch f p.start (at_right p.len t) → g ≡ filled (fill p t ∷ flag_fills o v) f
   unfolding filled
   filled-value {g} e x = rw e x

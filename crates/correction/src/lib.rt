@@ -17,15 +17,15 @@ pub fn correct(file: &mut [u8], order: Order) -> Answer
     ensures value { result ≡ answer_of file.old order }
     ensures file_after { file.new ≡ corrected_of file.old order }
 {
-    let d = deciding::decide(file, order);
-    if d.number != 0 {
-        return Answer::Refused {
-            number: d.number,
-            line: d.line,
-            column: d.column,
-        };
+    match deciding::decide(file, order) {
+        Ok(places) => {
+            writing::write(file, places, order);
+            Answer::Applied
+        }
+        Err(e) => Answer::Refused {
+            number: e.number,
+            line: e.line,
+            column: e.column,
+        },
     }
-    let places = d.places;
-    writing::write(file, places, order);
-    Answer::Applied
 }

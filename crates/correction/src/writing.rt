@@ -11,8 +11,7 @@ use text::Span;
 #[derive(Clone, Copy)]
 pub struct CellPlaces {
     pub value: Span,
-    pub flagged: bool,
-    pub flag: Span,
+    pub flag: Option<Span>,
 }
 
 // Writes the cells of a measurement: its value and, if there is one, its flag.
@@ -20,16 +19,14 @@ pub fn write(file: &mut [u8], places: CellPlaces, order: Order)
     requires { Writes file.old places order }
     ensures { file.new ≡ filled (fills_at places order) file.old }
 {
-    let value = places.value;
     set_number(
         file,
-        value,
+        places.value,
         order.millionths < 0,
         size_of(order.millionths),
         order.decimals,
     );
-    if places.flagged {
-        let flag = places.flag;
+    if let Some(flag) = places.flag {
         set_digit(file, flag, order.flag);
     }
 }

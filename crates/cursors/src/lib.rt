@@ -5,7 +5,7 @@
 use format::CellPlace;
 
 // On the cell of `row` and `column`, which ends with its spaces at `stop`, in a file of so many rows and columns; at the end row and column are 0. The file's
-// refusal stands beside the cell's place.
+// refusal stands beside the cell's place. No Option: the definitions of specs/Walk and the ten numbers of the C interface have the end so.
 #[derive(Clone, Copy)]
 pub struct Cursor {
     pub cell: CellPlace,

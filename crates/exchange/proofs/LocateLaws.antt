@@ -5,12 +5,14 @@ use mathlib.Core.List.{List, []}
 use mathlib.Core.Bool.{Bool, false, cond}
 use lib.ListN.{length, get_or}
 use lib.Dec.{eqb, ltb}
+use Rattle.std.specs.Prelude.{Ok, Err}
 use borrow.Author.Tests.{lt-ltb, le-ltb}
 use Rattle.line_bytes.specs.declared.Span.{Span}
 use Rattle.line_bytes.specs.Cells.{line_at}
 use Rattle.line_bytes.specs.Names.{begins_ctd}
 use Rattle.exchange.specs.declared.finding.Cell.{Cell}
 use Rattle.format.specs.declared.Located.{Located}
+use Rattle.format.specs.declared.Refusal.{Refusal}
 use Rattle.format.specs.Columns.{names_of}
 use Rattle.format.specs.Grid.{nowhere}
 use Rattle.format.specs.Inner.Grid.{cell_span}
@@ -38,21 +40,21 @@ module _ (s : List ℕ) (i k : ℕ) (p : Span) (e : p ≡ cell_span s i k) where
   name-ctd t b d g = g ∙ ap begins_ctd (d ∙ ap (λ (q : Span). text_in s q.start (q.start + q.len)) e ∙ span-text s k i)
 
 -- ---- the call
-module _ (s : List ℕ) (r c : ℕ) (x : Cell) (w : AskedRead s r c x) where
-  pub locate-refused : (x.number ≡ 0 → ⊥)
-      → ◌≡◌ {A = Located} (record { number = x.number; line = x.line; column = x.column; value = nowhere; measured = false; ctd = false; flagged = false; flag = nowhere }) (located_of s r c)
+module _ (s : List ℕ) (r c : ℕ) where
+  pub locate-refused : (e : Refusal) → AskedRead s r c (Err e)
+      → ◌≡◌ {A = Located} (record { number = e.number; line = e.line; column = e.column; value = nowhere; measured = false; ctd = false; flagged = false; flag = nowhere }) (located_of s r c)
   unfolding located_of
-  locate-refused z = sym (ap (located_by s r c) (w.stop z))
+  locate-refused e w = sym (ap (located_by s r c) w)
 
-  module _ (z : x.number ≡ 0) where
-    cell : CellRead s r c (w.on z).0 x
-    cell = (w.on z).1
+  module _ (x : Cell) (w : AskedRead s r c (Ok x)) where
+    cell : CellRead s r c w.0 x
+    cell = w.1
 
     pub locate-found : (d : Bool) → d ≡ begins_ctd (get_or (names_of (line_at s x.names)) (c - 1) [])
         → (f : ℕ) → f ≡ flag_in_line (line_at s x.names) c
         → (p : Span) → p ≡ cond (ltb 0 f) (cell_span s x.at (f - 1)) nowhere
-        → ◌≡◌ {A = Located} (record { number = 0; line = 0; column = 0; value = record { start = x.start; len = x.len }; measured = eqb x.kind 0; ctd = d; flagged = ltb 0 f; flag = p }) (located_of s r c)
+        → ◌≡◌ {A = Located} (record { number = 0; line = 0; column = 0; value = x.place; measured = eqb x.kind 0; ctd = d; flagged = ltb 0 f; flag = p }) (located_of s r c)
     unfolding located_of
     locate-found d e f ef p ep =
-        let g : f ≡ flag_column (w.on z).0 c = ef ∙ flag-asked (w.on z).0 (line_at s x.names) cell.names c cell.within.0 cell.within.1 in
-        rw (cell.asked, e, ep, cell.kind, cell.start, cell.len, cell.cells f, g, ← cell.names)
+        let g : f ≡ flag_column w.0 c = ef ∙ flag-asked w.0 (line_at s x.names) cell.names c cell.within.0 cell.within.1 in
+        rw (cell.asked, e, ep, cell.kind, cell.place, cell.cells f, g, ← cell.names)

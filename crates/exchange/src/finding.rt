@@ -8,65 +8,50 @@ ghost use Rattle.format.specs.Inner.Grid.{cell_span};
 ghost use Rattle.exchange.specs.Inner.Cells.{AskedRead};
 
 use columns::kind_in;
+use format::Refusal;
 use grid::{cell_span, line_end, line_start};
 use rules::open_file;
 use text::{Span, refusals};
 
-// The cell stands at start, with its spaces; its line goes from `at` to its line feed at `feed`; the names line starts at `names`.
+// A cell and its place, with its spaces; its line goes from `at` to its line feed at `feed`; the names line starts at `names`. The
+// kind is a byte: it is handed on to text, whose calls are defined for any.
 #[derive(Clone, Copy)]
 pub struct Cell {
-    pub number: u64,
-    pub line: u64,
-    pub column: u64,
     pub kind: u8,
-    pub start: usize,
-    pub len: usize,
+    pub place: Span,
     pub at: usize,
     pub feed: usize,
     pub names: usize,
 }
 
-fn missed(number: u64, line: u64, column: u64) -> Cell
-    ensures { (result.number ≡ number) × (result.line ≡ line) × (result.column ≡ column) }
-{
-    Cell {
-        number,
-        line,
-        column,
-        kind: 0,
-        start: 0,
-        len: 0,
-        at: 0,
-        feed: 0,
-        names: 0,
-    }
-}
-
 // The cell of a row and a column, from 1 each, of a file that is checked first.
-pub fn find_cell(file: &[u8], row: u64, column: u64) -> Cell
+pub fn find_cell(file: &[u8], row: u64, column: u64) -> Result<Cell, Refusal>
     ensures { AskedRead file.now row column result }
 {
     let o = open_file(file);
     let checked = o.checked;
     if checked.number != 0 {
-        return missed(checked.number, checked.line, checked.column);
+        return Err(Refusal {
+            number: checked.number,
+            line: checked.line,
+            column: checked.column,
+        });
     }
     if (row < 1) | (checked.rows < row) | (column < 1) | (checked.columns < column) {
-        return missed(refusals::NO_SUCH_PLACE, 0, 0);
+        return Err(Refusal {
+            number: refusals::NO_SUCH_PLACE,
+            line: 0,
+            column: 0,
+        });
     }
     let at = line_start(file, o.first, (row - 1) as usize);
-    let p = cell_span(file, at, (column - 1) as usize);
-    Cell {
-        number: 0,
-        line: 0,
-        column: 0,
+    Ok(Cell {
         kind: kind_in(file, o.names, column),
-        start: p.start,
-        len: p.len,
+        place: cell_span(file, at, (column - 1) as usize),
         at,
         feed: line_end(file, at),
         names: o.names,
-    }
+    })
 }
 
 // The place of a column's cell, the column counted from 1, of the line that starts at `at`; that of nothing for column 0.

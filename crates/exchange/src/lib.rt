@@ -30,19 +30,18 @@ pub use rules::{check, open_file};
 pub fn cell_place(file: &[u8], row: u64, column: u64) -> CellPlace
     ensures { result ≡ place_for file.now row column }
 {
-    let a = finding::find_cell(file, row, column);
-    if a.number != 0 {
-        return no_place(a.number, a.line, a.column);
-    }
-    CellPlace {
-        number: 0,
-        line: 0,
-        column: 0,
-        place: text::trim_span(file, a.start, a.start + a.len),
+    match finding::find_cell(file, row, column) {
+        Ok(a) => CellPlace {
+            number: 0,
+            line: 0,
+            column: 0,
+            place: text::trim_span(file, a.place.start, a.place.start + a.place.len),
+        },
+        Err(e) => no_place(e.number, e.line, e.column),
     }
 }
 
-// The trimmed cell, a part of the file itself; refusal gets number, line and column.
+// The trimmed cell, a part of the file itself; refusal gets number, line and column. No Result: on refusal it is an empty part of the file, as document 01 asks.
 pub fn cell<'a>(file: &'a [u8], row: u64, column: u64, refusal: &mut [u64; 3]) -> &'a [u8]
     ensures part { IsPart file.entry result (cell_of file.now row column) }
     ensures refusal_after { refusal.new ≡ refusal_by (asked_of file.now row column) }
@@ -58,44 +57,39 @@ pub fn cell<'a>(file: &'a [u8], row: u64, column: u64, refusal: &mut [u64; 3]) -
 pub fn decimal(file: &[u8], row: u64, column: u64) -> Reading
     ensures { result ≡ reading_for file.now row column }
 {
-    let a = finding::find_cell(file, row, column);
-    if a.number != 0 {
-        return Reading::Refused {
-            number: a.number,
-            line: a.line,
-            column: a.column,
-        };
+    match finding::find_cell(file, row, column) {
+        Ok(a) => text::read_decimal(file, a.place.start, a.feed, b',', a.kind),
+        Err(e) => Reading::Refused {
+            number: e.number,
+            line: e.line,
+            column: e.column,
+        },
     }
-    text::read_decimal(file, a.start, a.feed, b',', a.kind)
 }
 
 // The flag of a flag column.
 pub fn flag(file: &[u8], row: u64, column: u64) -> Flagged
     ensures { result ≡ flagged_of file.now row column }
 {
-    let a = finding::find_cell(file, row, column);
-    if a.number != 0 {
-        return Flagged {
-            number: a.number,
-            line: a.line,
-            column: a.column,
-            flag: 0,
-        };
-    }
-    if (a.kind == kinds::FLAG) | (a.kind == kinds::CTD_FLAG) {
-        let j = text::judge(file, a.start, a.feed, b',', a.kind);
-        return Flagged {
+    match finding::find_cell(file, row, column) {
+        Ok(a) if matches!(a.kind, kinds::FLAG | kinds::CTD_FLAG) => Flagged {
             number: 0,
             line: 0,
             column: 0,
-            flag: j.size,
-        };
-    }
-    Flagged {
-        number: refusals::COLUMN_OF_OTHER_KIND,
-        line: 0,
-        column: 0,
-        flag: 0,
+            flag: text::judge(file, a.place.start, a.feed, b',', a.kind).size,
+        },
+        Ok(_) => Flagged {
+            number: refusals::COLUMN_OF_OTHER_KIND,
+            line: 0,
+            column: 0,
+            flag: 0,
+        },
+        Err(e) => Flagged {
+            number: e.number,
+            line: e.line,
+            column: e.column,
+            flag: 0,
+        },
     }
 }
 
@@ -103,31 +97,29 @@ pub fn flag(file: &[u8], row: u64, column: u64) -> Flagged
 pub fn locate(file: &[u8], row: u64, column: u64) -> Located
     ensures { result ≡ located_of file.now row column }
 {
-    let a = finding::find_cell(file, row, column);
-    if a.number != 0 {
-        return Located {
-            number: a.number,
-            line: a.line,
-            column: a.column,
+    match finding::find_cell(file, row, column) {
+        Ok(a) => {
+            let flag = flag_column(file, a.names, column);
+            Located {
+                number: 0,
+                line: 0,
+                column: 0,
+                value: a.place,
+                measured: a.kind == kinds::MEASURED,
+                ctd: finding::is_ctd(file, a.names, (column - 1) as usize),
+                flagged: 0 < flag,
+                flag: finding::place_in(file, a.at, flag),
+            }
+        }
+        Err(e) => Located {
+            number: e.number,
+            line: e.line,
+            column: e.column,
             value: Span { start: 0, len: 0 },
             measured: false,
             ctd: false,
             flagged: false,
             flag: Span { start: 0, len: 0 },
-        };
-    }
-    let flag = flag_column(file, a.names, column);
-    Located {
-        number: 0,
-        line: 0,
-        column: 0,
-        value: Span {
-            start: a.start,
-            len: a.len,
         },
-        measured: a.kind == kinds::MEASURED,
-        ctd: finding::is_ctd(file, a.names, (column - 1) as usize),
-        flagged: 0 < flag,
-        flag: finding::place_in(file, a.at, flag),
     }
 }

@@ -3,96 +3,69 @@ use Prim.Native.Nat.{ℕ, min, zero, suc, ◌+◌, ◌≤◌, ◌<◌}
 use mathlib.Core.Path.{◌≡◌, refl, sym, ap, ◌∙◌}
 use mathlib.Core.Logic.{◌↔◌, ⊎_elim}
 use mathlib.Core.List.{List, [], ◌∷◌, ◌++◌}
-use mathlib.Core.Bool.{Bool, true, false, cond, ◌&&◌, ◌||◌, true≢false}
+use mathlib.Core.Bool.{Bool, true, false, cond, not, ◌&&◌, ◌||◌, true≢false}
 use native.Mathlib.Numerals.{add-one}
 use native.Mathlib.Nat.{not-suc-le-zero, le_of_suc-le-suc, le_refl, eq-or-lt_of_le}
 use native.Mathlib.Omega.{arith}
-use lib.ListN.{length, get_or, take, drop, set, drop_of_length-le}
-use lib.Seq.{take-suc, drop-cons}
-use lib.Dec.{ltb, leb-suc-suc}
-use borrow.Author.Tests.{lt-ltb, le-ltb, ltb-true, ltb-false}
-use Rattle.line_bytes.specs.Bytes.{bytes, equal}
+use lib.ListN.{length, get_or, take, drop, set, drop_of_length-le, length-map}
+use lib.Seq.{slice, take-suc, drop-cons}
+use lib.Dec.{ltb, leb, leb-suc-suc}
+use borrow.Author.Tests.{lt-ltb, le-ltb, ltb-true, ltb-false, lt-leb, leb-true, leb-false}
+use Rattle.std.specs.Prelude.{Option, Some, None, is_some, position}
+use Rattle.std.specs.List.{position_or_len, list_all}
+use Rattle.std.proofs.lemmas.List.Recursion.{is_position_or_len}
+use Rattle.line_bytes.specs.declared.Span.{Span}
+use Rattle.line_bytes.specs.Bytes.{equal}
 use Rattle.line_bytes.specs.Names.{is_name}
+use Rattle.line_bytes.specs.Spaces.{trim_span, indent, trim}
 use Rattle.line_bytes.proofs.EqualLaws.{equal-same, equal_refl}
 use Rattle.format.specs.declared.NameFault.{NameFault}
-use Rattle.format.specs.declared.NameFault.TheVariants.{Clean, Bad, Repeated}
+use Rattle.format.specs.declared.NameFault.TheVariants.{Bad, Repeated}
 use Rattle.format.specs.Faults.{member, has_all, place_in}
-use Rattle.format.specs.Headers.{station_names}
 use Rattle.format.specs.Inner.Names.{fault_in, text_in, names_at}
 
 -- ---- names by place
-pub names-length : (s : List ℕ) (n : ℕ) (bs es : List ℕ) → n ≤ length bs → n ≤ length es → length (names_at s n bs es) ≡ n
-unfolding names_at
-names-length s zero bs es h k = refl
-names-length s (suc n) [] es h k = absurd (not-suc-le-zero h)
-names-length s (suc n) (b ∷ bs) [] h k = absurd (not-suc-le-zero k)
-names-length s (suc n) (b ∷ bs) (e ∷ es) h k = ap suc (names-length s n bs es (le_of_suc-le-suc h) (le_of_suc-le-suc k))
+pub names-length : (s : List ℕ) (ps : List Span) → length (names_at s ps) ≡ length ps
+names-length s ps = length-map ps (λ (p : Span). text_in s p.start (p.start + p.len))
 
--- of more than have their places, those that have
-names_alike : (s : List ℕ) (m n : ℕ) (bs es : List ℕ) → min m (min (length bs) (length es)) ≡ min n (min (length bs) (length es)) → names_at s m bs es ≡ names_at s n bs es
-unfolding names_at
-names_alike s zero zero bs es h = refl
-names_alike s zero (suc n) [] es h = refl
-names_alike s zero (suc n) (b ∷ bs) [] h = refl
-names_alike s zero (suc n) (b ∷ bs) (e ∷ es) h = absurd (omega arith)
-names_alike s (suc m) zero [] es h = refl
-names_alike s (suc m) zero (b ∷ bs) [] h = refl
-names_alike s (suc m) zero (b ∷ bs) (e ∷ es) h = absurd (omega arith)
-names_alike s (suc m) (suc n) [] es h = refl
-names_alike s (suc m) (suc n) (b ∷ bs) [] h = refl
-names_alike s (suc m) (suc n) (b ∷ bs) (e ∷ es) h = ap (◌∷◌ (text_in s b e)) (names_alike s m n bs es (omega arith))
+none-taken : (s : List ℕ) → take 0 (drop 0 s) ≡ []
+none-taken [] = refl
+none-taken (x ∷ xs) = refl
 
-pub names-few : (s : List ℕ) (m n : ℕ) (bs es : List ℕ) → m ≡ min n (min (length bs) (length es)) → names_at s m bs es ≡ names_at s n bs es
-names-few s m n bs es h = names_alike s m n bs es (omega arith)
+-- a place beyond the text has the empty text, however far it goes
+text_far : (s : List ℕ) (a e : ℕ) → length s < e → text_in s a e ≡ []
+unfolding trim_span
+text_far s a e h = rw (lt-leb e (length s) h) (go (leb a e))
+  where
+    go : (b : Bool) → take (cond {A = Span} (b && false) (record { start = a + indent (slice a e s); len = length (trim (slice a e s)) }) (record { start = 0; len = 0 })).len (drop (cond {A = Span} (b && false) (record { start = a + indent (slice a e s); len = length (trim (slice a e s)) }) (record { start = 0; len = 0 })).start s) ≡ []
+    go true = none-taken s
+    go false = none-taken s
 
-pub names_get : (s : List ℕ) (n : ℕ) (bs es : List ℕ) (k : ℕ) → k < n → n ≤ length bs → n ≤ length es
-    → get_or (names_at s n bs es) k [] ≡ text_in s (get_or bs k 0) (get_or es k 0)
-unfolding names_at
-names_get s zero bs es k l h m = absurd (not-suc-le-zero l)
-names_get s (suc n) [] es k l h m = absurd (not-suc-le-zero h)
-names_get s (suc n) (b ∷ bs) [] k l h m = absurd (not-suc-le-zero m)
-names_get s (suc n) (b ∷ bs) (e ∷ es) zero l h m = refl
-names_get s (suc n) (b ∷ bs) (e ∷ es) (suc k) l h m = names_get s n bs es k (le_of_suc-le-suc l) (le_of_suc-le-suc h) (le_of_suc-le-suc m)
+pub text-most : (s : List ℕ) (a e m : ℕ) → length s < m → text_in s a (min e m) ≡ text_in s a e
+text-most s a e m h = go (leb e m) refl
+  where
+    go : (b : Bool) → leb e m ≡ b → text_in s a (min e m) ≡ text_in s a e
+    go true q = let z : min e m ≡ e = omega (arith, leb-true e m q) in rw z
+    go false q = text_far s a (min e m) (omega (arith, leb-false e m q)) ∙ sym (text_far s a e (omega (arith, leb-false e m q)))
 
-names-set_suc : (s : List ℕ) (n : ℕ) (bs es : List ℕ) (b e : ℕ) → n < length bs → n < length es
-    → names_at s (suc n) (set bs n b) (set es n e) ≡ names_at s n bs es ++ text_in s b e ∷ []
-unfolding names_at
-names-set_suc s n [] es b e h k = absurd (not-suc-le-zero h)
-names-set_suc s n (x ∷ bs) [] b e h k = absurd (not-suc-le-zero k)
-names-set_suc s zero (x ∷ bs) (y ∷ es) b e h k = refl
-names-set_suc s (suc n) (x ∷ bs) (y ∷ es) b e h k = ap (◌∷◌ (text_in s x y)) (names-set_suc s n bs es b e (le_of_suc-le-suc h) (le_of_suc-le-suc k))
+pub names-take : (s : List ℕ) (n : ℕ) (ps : List Span) → names_at s (take n ps) ≡ take n (names_at s ps)
+names-take s zero [] = refl
+names-take s zero (p ∷ ps) = refl
+names-take s (suc n) [] = refl
+names-take s (suc n) (p ∷ ps) = ap (◌∷◌ (text_in s p.start (p.start + p.len))) (names-take s n ps)
 
 -- one more name
-pub names-set : (s : List ℕ) (n : ℕ) (bs es : List ℕ) (b e : ℕ) → n < length bs → n < length es
-    → names_at s (n + 1) (set bs n b) (set es n e) ≡ names_at s n bs es ++ text_in s b e ∷ []
-names-set s n bs es b e h k = rw (add-one n) (names-set_suc s n bs es b e h k)
+names-set_suc : (s : List ℕ) (n : ℕ) (ps : List Span) (p : Span) → n < length ps
+    → names_at s (take (suc n) (set ps n p)) ≡ names_at s (take n ps) ++ text_in s p.start (p.start + p.len) ∷ []
+names-set_suc s n [] p h = absurd (not-suc-le-zero h)
+names-set_suc s zero (x ∷ ps) p h = refl
+names-set_suc s (suc n) (x ∷ ps) p h = ap (◌∷◌ (text_in s x.start (x.start + x.len))) (names-set_suc s n ps p (le_of_suc-le-suc h))
 
--- what a test of name k, handed out as t, says
-module _ (s : List ℕ) (n : ℕ) (bs es : List ℕ) (k : ℕ) (l : k < n) (h : n ≤ length bs) (m : n ≤ length es) (t : List ℕ)
-    (e : t ≡ text_in s (get_or bs k 0) (get_or es k 0)) where
-  pub name-given : t ≡ get_or (names_at s n bs es) k []
-  name-given = e ∙ sym (names_get s n bs es k l h m)
-
-  pub name-equal : (x : List ℕ) (b : Bool) → b ≡ equal t x → equal (get_or (names_at s n bs es) k []) x ≡ b
-  name-equal x b q = ap (λ (y : List ℕ). equal y x) (sym name-given) ∙ sym q
-
-  pub name-good : (b : Bool) → b ≡ is_name t → is_name (get_or (names_at s n bs es) k []) ≡ b
-  name-good b q = ap is_name (sym name-given) ∙ sym q
+pub names-set : (s : List ℕ) (n : ℕ) (ps : List Span) (p : Span) → n < length ps
+    → names_at s (take (n + 1) (set ps n p)) ≡ names_at s (take n ps) ++ text_in s p.start (p.start + p.len) ∷ []
+names-set s n ps p h = rw (add-one n) (names-set_suc s n ps p h)
 
 -- ---- the place of a name
-module _ (n : List ℕ) (ns : List (List ℕ)) (k : ℕ) where
-  pub place_end : length ns ≤ k → place_in n (drop k ns) ≡ 0
-  unfolding place_in
-  place_end h = rw (drop_of_length-le ns h)
-
-  pub place-stop : k < length ns → equal (get_or ns k []) n ≡ true → place_in n (drop k ns) ≡ 0
-  unfolding place_in
-  place-stop h e = rw (drop-cons ns k [] h) (rw e)
-
-  pub place-step : k < length ns → equal (get_or ns k []) n ≡ false → place_in n (drop k ns) ≡ 1 + place_in n (drop (k + 1) ns)
-  unfolding place_in
-  place-step h e = rw (add-one k, drop-cons ns k [] h) (rw e (omega arith))
-
 pub place-within : (n : List ℕ) (ns : List (List ℕ)) → place_in n ns ≤ length ns
 unfolding place_in
 place-within n [] = le_refl 0
@@ -114,6 +87,32 @@ place-member n (x ∷ xs) = go (equal x n) (member n xs) (place-member n xs)
 
 pub place_found : (n : List ℕ) (ns : List (List ℕ)) → (place_in n ns < length ns) ↔ (member n ns ≡ true)
 place_found n ns = (λ h. sym (place-member n ns) ∙ lt-ltb _ _ h, λ e. ltb-true (place_in n ns) (length ns) (place-member n ns ∙ e))
+
+-- the search by place is that among the names
+pub names-position : (n s : List ℕ) (ps : List Span) → position (λ (p : Span). equal (text_in s p.start (p.start + p.len)) n) ps ≡ position (λ x. equal x n) (names_at s ps)
+names-position n s ps = (λ i. cond (ltb (first ps i) (sym (names-length s ps) i)) (Some (first ps i)) None)
+  where
+    first : (ps : List Span) → position_or_len (λ (p : Span). equal (text_in s p.start (p.start + p.len)) n) ps ≡ position_or_len (λ x. equal x n) (names_at s ps)
+    first [] = refl
+    first (p ∷ ps) = ap (λ (k : ℕ). cond (not (equal (text_in s p.start (p.start + p.len)) n)) (1 + k) 0) (first ps)
+
+-- the search for it finds that place, where there is one
+pub position-place : (n : List ℕ) (ns : List (List ℕ)) → position (λ x. equal x n) ns ≡ cond (ltb (place_in n ns) (length ns)) (Some (place_in n ns)) None
+unfolding place_in
+position-place n ns = ap (λ (k : ℕ). cond (ltb k (length ns)) (Some k) None) (sym (is_position_or_len (place_in n) (λ x. equal x n) none more ns))
+  where
+    none : place_in n [] ≡ 0
+    none = refl
+
+    more : (x : List ℕ) (xs : List (List ℕ)) → place_in n (x ∷ xs) ≡ cond (equal x n) 0 (1 + place_in n xs)
+    more x xs = ap (cond (equal x n) 0) (omega arith)
+
+pub position-member : (n : List ℕ) (ns : List (List ℕ)) → is_some (position (λ x. equal x n) ns) ≡ member n ns
+position-member n ns = ap is_some (position-place n ns) ∙ go (ltb (place_in n ns) (length ns)) ∙ place-member n ns
+  where
+    go : (b : Bool) → is_some (cond b (Some (place_in n ns)) None) ≡ b
+    go true = refl
+    go false = refl
 
 -- what stands there
 pub place-name : (n : List ℕ) (ns : List (List ℕ)) → place_in n ns < length ns → get_or ns (place_in n ns) [] ≡ n
@@ -156,20 +155,24 @@ member_at (n ∷ ns) x (suc i) (suc j) h k q = go (equal n x) (member_at ns x i 
     go false q = q
 
 -- ---- the first fault, from name k on
-abbrev pub fault_from : List (List ℕ) → ℕ → NameFault
+abbrev pub fault_from : List (List ℕ) → ℕ → Option NameFault
 fault_from ns k = fault_in (take k ns) (drop k ns) k
 
+pub from_first : (ns : List (List ℕ)) → fault_in [] ns 0 ≡ fault_from ns 0
+from_first [] = refl
+from_first (x ∷ xs) = refl
+
 module _ (ns : List (List ℕ)) (k : ℕ) where
-  pub fault-end : length ns ≤ k → fault_from ns k ≡ Clean
+  pub fault-end : length ns ≤ k → fault_from ns k ≡ None
   unfolding fault_in
   fault-end h = rw (drop_of_length-le ns h)
 
   module _ (h : k < length ns) where
-    pub fault_bad : is_name (get_or ns k []) ≡ false → fault_from ns k ≡ Bad k
+    pub fault_bad : is_name (get_or ns k []) ≡ false → fault_from ns k ≡ Some (Bad k)
     unfolding fault_in
     fault_bad q = rw (drop-cons ns k [] h) (rw q)
 
-    pub fault_repeated : is_name (get_or ns k []) ≡ true → member (get_or ns k []) (take k ns) ≡ true → fault_from ns k ≡ Repeated k
+    pub fault_repeated : is_name (get_or ns k []) ≡ true → member (get_or ns k []) (take k ns) ≡ true → fault_from ns k ≡ Some (Repeated k)
     unfolding fault_in
     fault_repeated q m = rw (drop-cons ns k [] h) (rw (q, m))
 
@@ -178,25 +181,21 @@ module _ (ns : List (List ℕ)) (k : ℕ) where
     fault-step q m = rw (add-one k, take-suc ns k [] h) (rw (drop-cons ns k [] h) (rw (q, m)))
 
 -- where no name has a fault, each differs from those before it
-clean_step : (ns : List (List ℕ)) (k : ℕ) → k < length ns → fault_from ns k ≡ Clean → (member (get_or ns k []) (take k ns) ≡ false) × (fault_from ns (k + 1) ≡ Clean)
+clean_step : (ns : List (List ℕ)) (k : ℕ) → k < length ns → fault_from ns k ≡ None → (member (get_or ns k []) (take k ns) ≡ false) × (fault_from ns (k + 1) ≡ None)
 clean_step ns k h e = go (is_name (get_or ns k [])) (member (get_or ns k []) (take k ns)) refl refl
   where
-    go : (a b : Bool) → is_name (get_or ns k []) ≡ a → member (get_or ns k []) (take k ns) ≡ b → (b ≡ false) × (fault_from ns (k + 1) ≡ Clean)
-    go false b p q = let w : Bad k ≡ Clean = sym (fault_bad ns k h p) ∙ e in let z : ◌≡◌ {A = ℕ} 0 1 = cc in absurd (omega arith)
-    go true true p q = let w : Repeated k ≡ Clean = sym (fault_repeated ns k h p q) ∙ e in let z : ◌≡◌ {A = ℕ} 0 1 = cc in absurd (omega arith)
+    go : (a b : Bool) → is_name (get_or ns k []) ≡ a → member (get_or ns k []) (take k ns) ≡ b → (b ≡ false) × (fault_from ns (k + 1) ≡ None)
+    go false b p q = let w : Some (Bad k) ≡ None = sym (fault_bad ns k h p) ∙ e in let z : ◌≡◌ {A = ℕ} 0 1 = cc in absurd (omega arith)
+    go true true p q = let w : Some (Repeated k) ≡ None = sym (fault_repeated ns k h p q) ∙ e in let z : ◌≡◌ {A = ℕ} 0 1 = cc in absurd (omega arith)
     go true false p q = (refl, sym (fault-step ns k h p q) ∙ e)
 
-clean-on : (ns : List (List ℕ)) (k : ℕ) → k ≤ length ns → fault_from ns 0 ≡ Clean → fault_from ns k ≡ Clean
+clean-on : (ns : List (List ℕ)) (k : ℕ) → k ≤ length ns → fault_from ns 0 ≡ None → fault_from ns k ≡ None
 clean-on ns zero h e = e
 clean-on ns (suc k) h e = rw add-one at (clean_step ns k h (clean-on ns k (omega arith) e)).1
 
-module _ (ns : List (List ℕ)) (e : fault_in [] ns 0 ≡ Clean) where
-  clean-first : (ns : List (List ℕ)) → fault_from ns 0 ≡ fault_in [] ns 0
-  clean-first [] = refl
-  clean-first (x ∷ xs) = refl
-
+module _ (ns : List (List ℕ)) (e : fault_in [] ns 0 ≡ None) where
   pub clean_fresh : (k : ℕ) → k < length ns → member (get_or ns k []) (take k ns) ≡ false
-  clean_fresh k h = (clean_step ns k h (clean-on ns k (omega arith) (clean-first ns ∙ e))).0
+  clean_fresh k h = (clean_step ns k h (clean-on ns k (omega arith) (sym (from_first ns) ∙ e))).0
 
   clean-before : (i j : ℕ) → i < j → j < length ns → get_or ns i [] ≡ get_or ns j [] → ⊥
   clean-before i j h l q = true≢false (sym (member_at ns (get_or ns j []) i j h (omega arith) (rw q (equal_refl (get_or ns j [])))) ∙ clean_fresh j l)
@@ -209,10 +208,10 @@ module _ (ns : List (List ℕ)) (e : fault_in [] ns 0 ≡ Clean) where
       go false z = ⊎_elim (λ (x : j ≡ i). f (sym x)) (λ (x : j < i). clean-before j i x a (sym q)) (eq-or-lt_of_le (ltb-false i j z))
 
 -- the name that has the fault is one of the list
-abbrev pub Within : NameFault → ℕ → Type 0
-Within Clean n = 0 ≤ n
-Within (Bad k) n = k < n
-Within (Repeated k) n = k < n
+abbrev pub Within : Option NameFault → ℕ → Type 0
+Within None n = 0 ≤ n
+Within (Some (Bad k)) n = k < n
+Within (Some (Repeated k)) n = k < n
 
 pub fault-within : (earlier xs : List (List ℕ)) (b : ℕ) → Within (fault_in earlier xs b) (b + length xs)
 unfolding fault_in
@@ -220,37 +219,13 @@ fault-within earlier [] b = omega arith
 fault-within earlier (x ∷ xs) b = go (is_name x) (member x earlier) (fault-within (earlier ++ x ∷ []) xs (suc b))
   where
     go : (p q : Bool) → Within (fault_in (earlier ++ x ∷ []) xs (suc b)) (suc b + length xs)
-        → Within (cond p (cond q (Repeated b) (fault_in (earlier ++ x ∷ []) xs (suc b))) (Bad b)) (b + suc (length xs))
+        → Within (cond p (cond q (Some (Repeated b)) (fault_in (earlier ++ x ∷ []) xs (suc b))) (Some (Bad b))) (b + suc (length xs))
     go false q h = omega arith
     go true true h = omega arith
     go true false h = let z : suc b + length xs ≡ b + suc (length xs) = omega arith in rw z at h
 
--- ---- the station names
-and_six : (a b c d e f : Bool) → (((((a && b) && c) && d) && e) && f) ≡ (a && (b && (c && (d && (e && (f && true))))))
-and_six false b c d e f = refl
-and_six true false c d e f = refl
-and_six true true false d e f = refl
-and_six true true true false e f = refl
-and_six true true true true false f = refl
-and_six true true true true true false = refl
-and_six true true true true true true = refl
-
-pub place-test : (x : List ℕ) (ns : List (List ℕ)) (n p : ℕ) → length ns ≡ n → p ≡ place_in x ns → ltb p n ≡ member x ns
-place-test x ns n p h e = rw (e, ← h) (place-member x ns)
-
-pub station-all : (ns : List (List ℕ)) (n a b c d e f : ℕ) → length ns ≡ n
-    → a ≡ place_in (bytes "EXPOCODE") ns → b ≡ place_in (bytes "STNNBR") ns → c ≡ place_in (bytes "CASTNO") ns
-    → d ≡ place_in (bytes "DATE") ns → e ≡ place_in (bytes "LATITUDE") ns → f ≡ place_in (bytes "LONGITUDE") ns
-    → (((((ltb a n && ltb b n) && ltb c n) && ltb d n) && ltb e n) && ltb f n) ≡ has_all station_names ns
+-- all of some names are among the others
+pub all_found : (ks xs : List (List ℕ)) → list_all (λ k. is_some (position (λ x. equal x k) xs)) ks ≡ has_all ks xs
 unfolding has_all
-station-all ns n a b c d e f h pa pb pc pd pe pf =
-    rw (
-      place-test (bytes "EXPOCODE") ns n a h pa,
-      place-test (bytes "STNNBR") ns n b h pb,
-      place-test (bytes "CASTNO") ns n c h pc,
-      place-test (bytes "DATE") ns n d h pd,
-      place-test (bytes "LATITUDE") ns n e h pe,
-      place-test (bytes "LONGITUDE") ns n f h pf,
-    )
-    (and_six (member (bytes "EXPOCODE") ns) (member (bytes "STNNBR") ns) (member (bytes "CASTNO") ns) (member (bytes "DATE") ns)
-    (member (bytes "LATITUDE") ns) (member (bytes "LONGITUDE") ns))
+all_found [] xs = refl
+all_found (k ∷ ks) xs = λ i. position-member k xs i && all_found ks xs i

@@ -7,8 +7,7 @@ use native.Mathlib.Omega.{arith}
 use lib.ListN.{length}
 use lib.Dec.{eqb, leb, ltb}
 use borrow.Author.Tests.{leb-true}
-use Rattle.line_bytes.specs.declared.Found.{Found}
-use Rattle.line_bytes.specs.declared.Found.TheVariants.{At, Nowhere}
+use Rattle.std.specs.Prelude.{Option, Some, None}
 use Rattle.line_bytes.specs.Cells.{pieces, line_at}
 use Rattle.line_bytes.specs.Spaces.{trim}
 use Rattle.line_bytes.specs.Names.{is_name}
@@ -45,9 +44,9 @@ number-unless : (b : Bool) (n c : ℕ) → in_table n ≡ true → Numbered (unl
 number-unless true n c h = tt
 number-unless false n c h = h
 
-number-found : (n : ℕ) (r : Found) → in_table n ≡ true → Numbered (found_fault n r)
-number-found n (At i) h = h
-number-found n Nowhere h = tt
+number-found : (n : ℕ) (r : Option ℕ) → in_table n ≡ true → Numbered (found_fault n r)
+number-found n (Some i) h = h
+number-found n None h = tt
 
 number-kind : (v : Verdict) (c : ℕ) → Numbered (kind_fault v c)
 number-kind blank c = refl

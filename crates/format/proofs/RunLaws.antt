@@ -10,14 +10,14 @@ use lib.Dec.{eqb, ltb, leb}
 use borrow.Author.Tests.{eqb-true, ltb-true, ltb-false, leb-true}
 use Rattle.line_bytes.specs.Cells.{first_piece, later_pieces, pieces, line_at}
 use Rattle.line_bytes.specs.Inner.Scans.{Stop}
-use Rattle.format.specs.declared.Line.{Line}
+use Rattle.std.specs.Prelude.{Ok, Err}
+use Rattle.format.specs.declared.BrokenRule.{BrokenRule}
 use Rattle.format.specs.Faults.{Fault, clean, breaks, unless, first_of}
 use Rattle.format.specs.LineRules.{line_too_long, line_rules, byte_rules, unended_rules}
 use Rattle.format.specs.Places.{Place, stopped, rules_at, end_rules, next_place, step, refused, run}
-use Rattle.format.specs.Inner.Faults.{line_fault, unended_fault, as_fault}
+use Rattle.format.specs.Inner.Faults.{line_fault, unended_fault}
 use Rattle.format.specs.Inner.Lines.{lines_from, StartsAt, line_fault_at, line_for, line_of}
 use Rattle.format.proofs.RuleLaws.{Going, fault_outcome, last_cut}
-use Rattle.format.proofs.NumberLaws.{Numbered, numbered_nonzero, line_at_numbered}
 use Rattle.format.proofs.FaultLaws.{breaks-clean, then-clean}
 
 -- after a broken rule nothing changes
@@ -115,68 +115,63 @@ run_cut : (l : ℕ) (p : Place) (x : List ℕ) → 0 < length x → Going p → 
 unfolding run
 run_cut l p x h g = last_cut l p x h g
 
--- ---- rules 1 to 5 of a line, which `line_at` gives by their number
-numbered-clean : (f : Fault) (e : ℕ) → Numbered f → (line_for f e).number ≡ 0 → f ≡ clean
-numbered-clean clean e a h = refl
-numbered-clean (breaks n c) e a h = absurd (numbered_nonzero n c a h)
-
+-- ---- rules 1 to 5 of a line, as `line_at` gives them
 unended_broken : (x : List ℕ) → unended_fault x ≡ clean → ⊥
 unfolding unended_fault unended_rules first_of
 unended_broken x e = breaks-clean 2 (length x + 1) (then-clean (line_too_long x) _ e).1
 
-module _ (control : Bool) (s : List ℕ) (i : ℕ) where
-  -- number 0: the line keeps rules 1 to 5, and its line feed stands at `end`
-  pub line_zero : (line_of control s i).number ≡ 0 → line_fault_at control s i ≡ clean
-  unfolding line_of
-  line_zero z = numbered-clean (line_fault_at control s i) _ (line_at_numbered control s i) z
+-- its line feed stands at q: it keeps them; it breaks b
+line_for-ok : (f : Fault) (e q : ℕ) → line_for f e ≡ Ok q → (f ≡ clean) × (q ≡ e)
+line_for-ok clean e q h = (refl, cc)
+line_for-ok (breaks n c) e q h = absurd cc
 
-  pub line_clean : (line_of control s i).number ≡ 0
-      → (line_fault control (line_at s i) ≡ clean) × (i + length (line_at s i) < length s) × ((line_of control s i).end ≡ i + length (line_at s i)) × (get_or s (line_of control s i).end 0 ≡ 10)
+line_for-err : (f : Fault) (e : ℕ) (b : BrokenRule) → line_for f e ≡ Err b → f ≡ breaks b.number b.column
+line_for-err clean e b h = absurd cc
+line_for-err (breaks n c) e b h = let k : record { number = n; column = c } ≡ b = cc in rw (← k)
+
+module _ (control : Bool) (s : List ℕ) (i : ℕ) where
+  pub line_ok : (q : ℕ) → line_of control s i ≡ Ok q → line_fault_at control s i ≡ clean
+  unfolding line_of
+  line_ok q z = (line_for-ok (line_fault_at control s i) _ q z).0
+
+  pub line_clean : (q : ℕ) → line_of control s i ≡ Ok q
+      → (line_fault control (line_at s i) ≡ clean) × (i + length (line_at s i) < length s) × (q ≡ i + length (line_at s i)) × (get_or s q 0 ≡ 10)
   unfolding line_of line_fault_at
-  line_clean h = go (ltb (i + length (line_at s i)) (length s)) refl (line_zero h)
+  line_clean q h = go (ltb (i + length (line_at s i)) (length s)) refl (line_for-ok (line_fault_at control s i) _ q h)
     where
       go : (b : Bool) → ltb (i + length (line_at s i)) (length s) ≡ b
-          → cond b (line_fault control (line_at s i)) (unended_fault (line_at s i)) ≡ clean
-          → (line_fault control (line_at s i) ≡ clean) × (i + length (line_at s i) < length s)
-          × ((line_for (cond b (line_fault control (line_at s i)) (unended_fault (line_at s i))) (i + length (line_at s i))).end ≡ i + length (line_at s i))
-          × (get_or s (line_for (cond b (line_fault control (line_at s i)) (unended_fault (line_at s i))) (i + length (line_at s i))).end 0 ≡ 10)
-      go true e f = let k = ltb-true _ _ e in (f, k, rw f, rw f (line-feed s i k))
-      go false e f = absurd (unended_broken (line_at s i) f)
+          → (cond b (line_fault control (line_at s i)) (unended_fault (line_at s i)) ≡ clean) × (q ≡ i + length (line_at s i))
+          → (line_fault control (line_at s i) ≡ clean) × (i + length (line_at s i) < length s) × (q ≡ i + length (line_at s i)) × (get_or s q 0 ≡ 10)
+      go true e (f, d) = let k = ltb-true _ _ e in (f, k, d, rw d (line-feed s i k))
+      go false e (f, d) = absurd (unended_broken (line_at s i) f)
 
-  -- another number: the run from this line on is refused there
-  pub line_broken-here : (l : ℕ) (p : Place) → i < length s → ((line_of control s i).number ≡ 0 → ⊥)
+  pub line_err : (b : BrokenRule) → line_of control s i ≡ Err b → line_fault_at control s i ≡ breaks b.number b.column
+  unfolding line_of
+  line_err b z = line_for-err (line_fault_at control s i) _ b z
+
+  -- a broken rule: the run from this line on is refused there
+  pub line_broken-here : (b : BrokenRule) (l : ℕ) (p : Place) → i < length s → line_of control s i ≡ Err b
       → ((n c : ℕ) → line_fault control (line_at s i) ≡ breaks n c → step l p (line_at s i) ≡ stopped n l c)
       → Going p
-      → run l p (lines_from s i) ≡ refused (line_of control s i).number l (line_of control s i).column
-  unfolding line_of line_fault_at
-  line_broken-here l p h z f g = go (ltb (i + length (line_at s i)) (length s)) refl z
+      → run l p (lines_from s i) ≡ refused b.number l b.column
+  unfolding line_fault_at
+  line_broken-here b l p h z f g = go (ltb (i + length (line_at s i)) (length s)) refl (line_err b z)
     where
-      Refused : Fault → Type 0
-      Refused a = run l p (lines_from s i) ≡ refused (line_for a (i + length (line_at s i))).number l (line_for a (i + length (line_at s i))).column
+      go : (a : Bool) → ltb (i + length (line_at s i)) (length s) ≡ a
+          → cond a (line_fault control (line_at s i)) (unended_fault (line_at s i)) ≡ breaks b.number b.column
+          → run l p (lines_from s i) ≡ refused b.number l b.column
+      go true e k =
+          run-line l p s i (ltb-true _ _ e)
+          ∙ rw (f b.number b.column k, run-stopped (l + 1) b.number l b.column (lines_from s (i + length (line_at s i) + 1)))
+      go false e k =
+          let m = ltb-false _ _ e in
+          rw (lines_cut s i m) (run_cut l p (line_at s i) (omega arith) g ∙ rw k)
 
-      ended : i + length (line_at s i) < length s → (a : Fault) → line_fault control (line_at s i) ≡ a
-          → ((line_for a (i + length (line_at s i))).number ≡ 0 → ⊥) → Refused a
-      ended k clean e z = absurd (z refl)
-      ended k (breaks n c) e z =
-          run-line l p s i k ∙ rw (f n c e) (run-stopped (l + 1) n l c (lines_from s (i + length (line_at s i) + 1)))
-
-      shown : (a : Fault) (e : ℕ) → fault_outcome l a ≡ refused (line_for a e).number l (line_for a e).column
-      shown clean e = refl
-      shown (breaks n c) e = refl
-
-      go : (b : Bool) → ltb (i + length (line_at s i)) (length s) ≡ b
-          → ((line_for (cond b (line_fault control (line_at s i)) (unended_fault (line_at s i))) (i + length (line_at s i))).number ≡ 0 → ⊥)
-          → Refused (cond b (line_fault control (line_at s i)) (unended_fault (line_at s i)))
-      go true e z = ended (ltb-true _ _ e) (line_fault control (line_at s i)) refl z
-      go false e z =
-          let k = ltb-false _ _ e in
-          rw (lines_cut s i k) (run_cut l p (line_at s i) (omega arith) g ∙ shown (unended_fault (line_at s i)) _)
-
-pub line_broken : (l : ℕ) (p : Place) (s : List ℕ) (i : ℕ) (control : Bool) → i < length s → ((line_of control s i).number ≡ 0 → ⊥)
+pub line_broken : (b : BrokenRule) (l : ℕ) (p : Place) (s : List ℕ) (i : ℕ) (control : Bool) → i < length s → line_of control s i ≡ Err b
     → ((x : List ℕ) (n c : ℕ) → line_fault control x ≡ breaks n c → step l p x ≡ stopped n l c)
     → Going p
-    → run l p (lines_from s i) ≡ refused (line_of control s i).number l (line_of control s i).column
-line_broken l p s i control h z f g = line_broken-here control s i l p h z (f (line_at s i)) g
+    → run l p (lines_from s i) ≡ refused b.number l b.column
+line_broken b l p s i control h z f g = line_broken-here control s i b l p h z (f (line_at s i)) g
 
 -- the line after line l is line l + 1
 pub starts-next : (s : List ℕ) (l i : ℕ) → 1 ≤ l → StartsAt s l i → i + length (line_at s i) < length s → StartsAt s (l + 1) (i + length (line_at s i) + 1)
@@ -184,45 +179,35 @@ starts-next s l i o e h =
     let n : l - 1 + 1 ≡ l + 1 - 1 = omega arith in
     sym (ap (λ (ps : List (List ℕ)). drop 1 ps) (sym e ∙ lines_more s i h)) ∙ drop-drop 1 (l - 1) (pieces 10 s) ∙ ap (λ (k : ℕ). drop k (pieces 10 s)) n
 
--- ---- a line that keeps rules 1 to 5
-module _ (control : Bool) (s : List ℕ) (i : ℕ) (r : Line) (e : r ≡ line_of control s i) (z : r.number ≡ 0) where
+-- ---- a line that keeps rules 1 to 5: its line feed stands at q
+module _ (control : Bool) (s : List ℕ) (i q : ℕ) (z : line_of control s i ≡ Ok q) where
   pub line_rules_lem : line_fault control (line_at s i) ≡ clean
-  line_rules_lem = (line_clean control s i (rw e at z)).0
+  line_rules_lem = (line_clean control s i q z).0
 
-  pub line-ends : (r.end ≡ i + length (line_at s i)) × (r.end < length s)
-  line-ends = let w = line_clean control s i (rw e at z) in rw e (w.2, omega (arith, w.1, w.2))
+  pub line-ends : (q ≡ i + length (line_at s i)) × (q < length s)
+  line-ends = let w = line_clean control s i q z in (w.2, omega (arith, w.1, w.2))
 
-  pub line-stops : Stop 44 s i r.end
+  pub line-stops : Stop 44 s i q
   line-stops =
-      let w = line_clean control s i (rw e at z) in
+      let w = line_clean control s i q z in
       let d = line-ends in
-      record { inside = omega (arith, d.0); room = d.1; feed = rw e w.3; parts = refl }
+      record { inside = omega (arith, d.0); room = d.1; feed = w.3; parts = refl }
 
-  pub run_on : (l : ℕ) (p q : Place) → step l p (line_at s i) ≡ q → run l p (lines_from s i) ≡ run (l + 1) q (lines_from s (r.end + 1))
-  run_on l p q f =
+  pub run_on : (l : ℕ) (p t : Place) → step l p (line_at s i) ≡ t → run l p (lines_from s i) ≡ run (l + 1) t (lines_from s (q + 1))
+  run_on l p t f =
       let d = line-ends in
       run-line l p s i (omega (arith, d.0, d.1)) ∙ ap (λ (x : Place). run (l + 1) x (lines_from s (i + length (line_at s i) + 1))) f
-      ∙ ap (λ (j : ℕ). run (l + 1) q (lines_from s (j + 1))) (sym d.0)
+      ∙ ap (λ (j : ℕ). run (l + 1) t (lines_from s (j + 1))) (sym d.0)
 
-  pub starts-on : (l : ℕ) → 1 ≤ l → StartsAt s l i → StartsAt s (l + 1) (r.end + 1)
+  pub starts-on : (l : ℕ) → 1 ≤ l → StartsAt s l i → StartsAt s (l + 1) (q + 1)
   starts-on l k f =
       let d = line-ends in
       rw d.0 (starts-next s l i k f (omega (arith, d.0, d.1)))
 
--- ---- rules 1 to 5, which `line_at` gives by their number
-module _ (control : Bool) (s : List ℕ) (i : ℕ) where
-  pub zero-line : line_fault_at control s i ≡ clean → (line_of control s i).number ≡ 0
-  unfolding line_of
-  zero-line e = rw e
-
-  pub line-fault : as_fault (line_of control s i).number (line_of control s i).column ≡ line_fault_at control s i
-  unfolding line_of
-  line-fault = go (line_fault_at control s i) refl
-    where
-      go : (f : Fault) → line_fault_at control s i ≡ f → as_fault (line_for f (i + length (line_at s i))).number (line_for f (i + length (line_at s i))).column ≡ f
-      go clean p = refl
-      go (breaks zero c) p = absurd (breaks-clean 0 c (sym p ∙ line_zero control s i (rw p)))
-      go (breaks (suc n) c) p = refl
+-- and so where no rule is broken
+pub line-whole : (control : Bool) (s : List ℕ) (i : ℕ) → line_fault_at control s i ≡ clean → line_of control s i ≡ Ok (i + length (line_at s i))
+unfolding line_of
+line-whole control s i e = rw e
 
 -- a line that keeps them is short
 pub line-short : (control : Bool) (x : List ℕ) → line_fault control x ≡ clean → length x ≤ 8192

@@ -1,15 +1,13 @@
 -- Document 01, "Lines" and rules 1 to 5: a line is at most 8,192 bytes (H), has its line feed, is well-formed UTF-8, has no byte 0D and,
 -- where that is asked, no byte below 20 and no 7F.
-use Rattle.std.specs.Prelude.{ℕ, ◌+◌, List, [], ◌∷◌, Bool, cond, length, leb}
-use Rattle.line_bytes.specs.declared.Found.{Found}
-use Rattle.line_bytes.specs.declared.Found.TheVariants.{At, Nowhere}
+use Rattle.std.specs.Prelude.{ℕ, ◌+◌, List, [], ◌∷◌, Bool, cond, length, leb, Option, Some, None}
 use Rattle.line_bytes.specs.Lines.{ill_formed, return_at, control_at}
 use Rattle.format.specs.Faults.{Fault, clean, breaks, unless}
 
 -- the column of a byte that is found is counted from 1
-abbrev pub found_fault : ℕ → Found → Fault
-found_fault n (At i) = breaks n (i + 1)
-found_fault n Nowhere = clean
+abbrev pub found_fault : ℕ → Option ℕ → Fault
+found_fault n (Some i) = breaks n (i + 1)
+found_fault n None = clean
 
 -- 1, whether the line has its line feed or not
 abbrev pub line_too_long : List ℕ → Fault

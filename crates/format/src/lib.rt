@@ -1,16 +1,49 @@
-// The types of a file's answers; its definitions stand in specs/, its laws in proofs/. No function.
+// The types of a file's answers; its definitions stand in specs/, its laws in proofs/.
 
 #![tactic(auto)]
 
+ghost use Rattle.std.specs.Prelude.{◌≡◌};
+
 use text::{Reading, Span};
 
-// The kind of a file.
-#[derive(Clone, Copy)]
+// The first broken rule of a line: its number, and the column shown.
+#[derive(Clone, Copy, Debug, PartialEq, Eq)]
+pub struct BrokenRule {
+    pub number: u64,
+    pub column: u64,
+}
+
+// A refusal: its number, and the line and column shown, 0 each where no file is at fault.
+#[derive(Clone, Copy, Debug, PartialEq, Eq)]
+pub struct Refusal {
+    pub number: u64,
+    pub line: u64,
+    pub column: u64,
+}
+
+impl BrokenRule {
+    // The refusal of a file for a rule that its line of that number breaks.
+    pub fn on(self, line: u64) -> Refusal
+        ensures { (result.number ≡ self.number) × (result.line ≡ line) × (result.column ≡ self.column) }
+    {
+        Refusal {
+            number: self.number,
+            line,
+            column: self.column,
+        }
+    }
+}
+
+// The kind of a file; unknown where it is refused, as `checked_of` has it.
+#[derive(Clone, Copy, Debug, PartialEq, Eq)]
 pub enum FileKind {
     Unknown,
     Bottle,
     Ctd,
 }
+
+// The answers below have the refusal's number beside their values, 0 for none, and are no Result: the definitions that the public calls promise (`checked_of`,
+// `place_for`, `located_of` and others) end in them, and the C interface hands their numbers on. So too `flagged` beside `flag`, as `located_of` has it.
 
 // The check's answer: accepted with its counts where the number is 0, else refused at line and column.
 #[derive(Clone, Copy)]
@@ -119,18 +152,9 @@ pub struct Located {
     pub flag: Span,
 }
 
-// A line: its line feed at `end`; or the first of rules 1 to 5 that it breaks and the column shown, the number being 0 where it breaks none.
-#[derive(Clone, Copy)]
-pub struct Line {
-    pub end: usize,
-    pub number: u64,
-    pub column: u64,
-}
-
-// The first fault of a list of names.
-#[derive(Clone, Copy)]
+// What is wrong with a name of a list, by its place from 0: it is bad, or the same as an earlier one.
+#[derive(Clone, Copy, Debug, PartialEq, Eq)]
 pub enum NameFault {
-    Clean,
     Bad(usize),
     Repeated(usize),
 }

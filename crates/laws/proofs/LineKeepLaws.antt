@@ -7,8 +7,7 @@ use mathlib.Core.Bool.{Bool, true, ◌&&◌, true≢false, and-eq-true_iff}
 use mathlib.Core.List.{List, [], ◌∷◌, ◌++◌, append-nil}
 use native.Mathlib.Omega.{arith}
 use lib.ListN.{length, get_or, set}
-use Rattle.line_bytes.specs.declared.Found.{Found}
-use Rattle.line_bytes.specs.declared.Found.TheVariants.{At, Nowhere}
+use Rattle.std.specs.Prelude.{Option, Some, None}
 use Rattle.line_bytes.specs.Bytes.{every}
 use Rattle.line_bytes.specs.Lines.{ill_formed, return_at, control_at}
 use Rattle.line_bytes.specs.Inner.Lines.{is_plain}
@@ -40,13 +39,13 @@ module _ (ok : List ℕ → Bool) (cut : (a b : List ℕ) → ok (a ++ 44 ∷ b)
       after_first (suc i) = refl
 
 -- ---- the rules of a line together
-found-clean : (n : ℕ) (f : Found) → found_fault n f ≡ clean → nowhere f ≡ true
-found-clean n (At i) e = let z : ◌≡◌ {A = ℕ} 0 1 = cc in absurd (omega arith)
-found-clean n Nowhere e = refl
+found-clean : (n : ℕ) (f : Option ℕ) → found_fault n f ≡ clean → nowhere f ≡ true
+found-clean n (Some i) e = let z : ◌≡◌ {A = ℕ} 0 1 = cc in absurd (omega arith)
+found-clean n None e = refl
 
-clean_found : (n : ℕ) (f : Found) → nowhere f ≡ true → found_fault n f ≡ clean
-clean_found n (At i) e = absurd (true≢false (sym e))
-clean_found n Nowhere e = refl
+clean_found : (n : ℕ) (f : Option ℕ) → nowhere f ≡ true → found_fault n f ≡ clean
+clean_found n (Some i) e = absurd (true≢false (sym e))
+clean_found n None e = refl
 
 pub line_kept : (ts : List (List ℕ)) (i : ℕ) (u : List ℕ) → i < length ts → length u ≡ length (get_or ts i []) → every is_plain u ≡ true
     → line_fault true (join 44 ts) ≡ clean → line_fault true (join 44 (set ts i u)) ≡ clean

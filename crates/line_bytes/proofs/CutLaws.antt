@@ -1,22 +1,19 @@
 -- Rules 3, 4 and 5 hold of bytes, a comma and more bytes exactly if they hold of both.
 --   well_cut, return_cut, control_cut : nowhere (rule (a ++ comma ∷ b)) ≡ (nowhere (rule a) && nowhere (rule b))
 use Prim.Native.Nat.{ℕ, zero, suc, pred, ◌≤◌}
-use mathlib.Core.Path.{◌≡◌, refl}
-use mathlib.Core.Bool.{Bool, true, false, cond, ◌&&◌}
+use mathlib.Core.Path.{◌≡◌, refl, ◌∙◌}
+use mathlib.Core.Bool.{Bool, true, false, cond, not, ◌&&◌}
 use mathlib.Core.List.{List, [], ◌∷◌, ◌++◌}
 use native.Mathlib.Omega.{arith}
 use lib.Dec.{eqb}
 use lib.ListN.{length}
+use Rattle.std.specs.Prelude.{position, Some}
 use Rattle.utf8.specs.Syntax.{character}
 use Rattle.utf8.proofs.CharacterLaws.{character_ascii, character_in_lem, character_cut}
-use Rattle.line_bytes.specs.declared.Found.{Found}
-use Rattle.line_bytes.specs.declared.Found.TheVariants.{At, Nowhere}
-use Rattle.line_bytes.specs.Bytes.{comma}
-use Rattle.line_bytes.specs.Lines.{ill_from, ill_formed, first_from, is_return, return_at, is_control, control_at}
-
-abbrev pub nowhere : Found → Bool
-nowhere (At i) = false
-nowhere Nowhere = true
+use Rattle.line_bytes.specs.Bytes.{comma, every}
+use Rattle.line_bytes.specs.Lines.{ill_from, ill_formed, is_return, return_at, is_control, control_at}
+use Rattle.line_bytes.proofs.EveryLaws.{every_append, position-every}
+pub use Rattle.line_bytes.proofs.EveryLaws.{nowhere}
 
 -- ---- rule 3: a character ends before a comma, which is no tail byte, and has all its bytes
 pred_in : (m n : ℕ) → m ≤ suc n → pred m ≤ n
@@ -35,7 +32,7 @@ ill_moved (x ∷ xs) i j zero = go (eqb (character (x ∷ xs)) 0) (ill_moved xs 
     n : ℕ
     n = pred (character (x ∷ xs))
 
-    go : (b : Bool) → nowhere (ill_from (suc i) n xs) ≡ nowhere (ill_from (suc j) n xs) → nowhere (cond b (At i) (ill_from (suc i) n xs)) ≡ nowhere (cond b (At j) (ill_from (suc j) n xs))
+    go : (b : Bool) → nowhere (ill_from (suc i) n xs) ≡ nowhere (ill_from (suc j) n xs) → nowhere (cond b (Some i) (ill_from (suc i) n xs)) ≡ nowhere (cond b (Some j) (ill_from (suc j) n xs))
     go true h = refl
     go false h = h
 ill_moved (x ∷ xs) i j (suc k) = ill_moved xs (suc i) (suc j) k
@@ -50,32 +47,17 @@ ill_cut (x ∷ a) b i zero h = rw (character_cut x a b) (go (eqb (character (x �
     n = pred (character (x ∷ a))
 
     go : (z : Bool) → nowhere (ill_from (suc i) n (a ++ comma ∷ b)) ≡ (nowhere (ill_from (suc i) n a) && nowhere (ill_from 0 0 b))
-        → nowhere (cond z (At i) (ill_from (suc i) n (a ++ comma ∷ b))) ≡ (nowhere (cond z (At i) (ill_from (suc i) n a)) && nowhere (ill_from 0 0 b))
+        → nowhere (cond z (Some i) (ill_from (suc i) n (a ++ comma ∷ b))) ≡ (nowhere (cond z (Some i) (ill_from (suc i) n a)) && nowhere (ill_from 0 0 b))
     go true e = refl
     go false e = e
 ill_cut (x ∷ a) b i (suc k) h = ill_cut a b (suc i) k (omega arith)
 
 -- ---- rules 4 and 5: byte by byte, and a comma breaks neither
-module _ (p : ℕ → Bool) where
-  first_moved : (xs : List ℕ) (i j : ℕ) → nowhere (first_from p i xs) ≡ nowhere (first_from p j xs)
-  unfolding first_from
-  first_moved [] i j = refl
-  first_moved (x ∷ xs) i j = go (p x) (first_moved xs (suc i) (suc j))
-    where
-      go : (b : Bool) → nowhere (first_from p (suc i) xs) ≡ nowhere (first_from p (suc j) xs)
-          → nowhere (cond b (At i) (first_from p (suc i) xs)) ≡ nowhere (cond b (At j) (first_from p (suc j) xs))
-      go true h = refl
-      go false h = h
-
-  first_cut : p comma ≡ false → (a b : List ℕ) (i : ℕ) → nowhere (first_from p i (a ++ comma ∷ b)) ≡ (nowhere (first_from p i a) && nowhere (first_from p 0 b))
-  unfolding first_from
-  first_cut h [] b i = rw h (first_moved b (suc i) 0)
-  first_cut h (x ∷ a) b i = go (p x) (first_cut h a b (suc i))
-    where
-      go : (z : Bool) → nowhere (first_from p (suc i) (a ++ comma ∷ b)) ≡ (nowhere (first_from p (suc i) a) && nowhere (first_from p 0 b))
-          → nowhere (cond z (At i) (first_from p (suc i) (a ++ comma ∷ b))) ≡ (nowhere (cond z (At i) (first_from p (suc i) a)) && nowhere (first_from p 0 b))
-      go true e = refl
-      go false e = e
+position_cut : (p : ℕ → Bool) → p comma ≡ false → (a b : List ℕ) → nowhere (position p (a ++ comma ∷ b)) ≡ (nowhere (position p a) && nowhere (position p b))
+unfolding every
+position_cut p h a b =
+    position-every p (a ++ comma ∷ b) ∙ every_append (λ (x : ℕ). not (p x)) a (comma ∷ b)
+    ∙ rw (h, position-every p a, position-every p b)
 
 module _ (a b : List ℕ) where
   pub well_cut : nowhere (ill_formed (a ++ comma ∷ b)) ≡ (nowhere (ill_formed a) && nowhere (ill_formed b))
@@ -84,8 +66,8 @@ module _ (a b : List ℕ) where
 
   pub return_cut : nowhere (return_at (a ++ comma ∷ b)) ≡ (nowhere (return_at a) && nowhere (return_at b))
   unfolding return_at
-  return_cut = first_cut is_return refl a b 0
+  return_cut = position_cut is_return refl a b
 
   pub control_cut : nowhere (control_at (a ++ comma ∷ b)) ≡ (nowhere (control_at a) && nowhere (control_at b))
   unfolding control_at
-  control_cut = first_cut is_control refl a b 0
+  control_cut = position_cut is_control refl a b

@@ -1,11 +1,17 @@
--- A test at every byte: its two parts at a byte, and its steps by an index.
-use Prim.Native.Nat.{ℕ, ◌+◌, ◌≤◌, ◌<◌}
+-- A test at every byte: its two parts at a byte, its steps by an index, and the same said by std's words.
+use Prim.Native.Nat.{ℕ, suc, ◌+◌, ◌≤◌, ◌<◌}
 use mathlib.Core.Path.{◌≡◌, refl, sym}
 use mathlib.Core.List.{List, ◌∷◌, [], ◌++◌}
-use mathlib.Core.Bool.{Bool, true, false, and-eq-true_iff, ◌&&◌, and_assoc}
-use native.Mathlib.Numerals.{add-one}
+use mathlib.Core.Bool.{Bool, true, false, false≢true, and-eq-true_iff, ◌&&◌, and_assoc, cond, not}
+use native.Mathlib.Numerals.{add-one, one-add}
+use lib.Dec.{ltb}
+use borrow.Author.Tests.{lt-ltb}
+use Prim.Native.Nat.compare
+use native.Mathlib.Omega.{arith}
 use lib.ListN.{length, get_or, drop, drop_of_length-le}
 use lib.Seq.{drop-cons}
+use Rattle.std.specs.Prelude.{position, Option, Some, None}
+use Rattle.std.specs.List.{list_all, prefix_len}
 use Rattle.line_bytes.specs.Bytes.{every}
 
 module _ (p : ℕ → Bool) where
@@ -30,3 +36,37 @@ pub every_append : (f : ℕ → Bool) (xs ys : List ℕ) → every f (xs ++ ys) 
 unfolding every
 every_append f [] ys = refl
 every_append f (x ∷ xs) ys = rw (every_append f xs ys) (sym (and_assoc (f x) (every f xs) (every f ys)))
+
+-- ---- as std says it
+pub every_listed : (f : ℕ → Bool) (xs : List ℕ) → list_all f xs ≡ every f xs
+unfolding every
+every_listed f [] = refl
+every_listed f (x ∷ xs) = rw (every_listed f xs)
+
+-- no byte is found
+abbrev pub nowhere : Option ℕ → Bool
+nowhere (Some i) = false
+nowhere None = true
+
+pub nowhere-none : (r : Option ℕ) → nowhere r ≡ true → r ≡ None
+nowhere-none (Some i) e = absurd (false≢true e)
+nowhere-none None e = refl
+
+some_fails : (f : ℕ → Bool) (xs : List ℕ) → ltb (prefix_len f xs) (length xs) ≡ not (every f xs)
+unfolding every
+some_fails f [] = refl
+some_fails f (x ∷ xs) = go (f x) (some_fails f xs)
+  where
+    go : (b : Bool) → ltb (prefix_len f xs) (length xs) ≡ not (every f xs) → ltb (cond b (1 + prefix_len f xs) 0) (suc (length xs)) ≡ not (b && every f xs)
+    go true h = rw (one-add (prefix_len f xs), compare.suc-suc) h
+    go false h = lt-ltb 0 (suc (length xs)) (omega arith)
+
+pub position-every : (p : ℕ → Bool) (xs : List ℕ) → nowhere (position p xs) ≡ every (λ (x : ℕ). not (p x)) xs
+position-every p xs = rw (some_fails f xs) (go (every f xs))
+  where
+    f : ℕ → Bool
+    f x = not (p x)
+
+    go : (b : Bool) → nowhere (cond (not b) (Some (prefix_len f xs)) None) ≡ b
+    go true = refl
+    go false = refl

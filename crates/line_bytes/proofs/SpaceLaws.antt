@@ -1,16 +1,19 @@
 -- Spaces at the ends of a text: what trimming leaves, where it stands, and the searches for it by an index.
 use Prim.Native.Nat.{ℕ, zero, suc, ◌+◌, ◌-◌, ◌≤◌, ◌<◌}
 use mathlib.Core.Path.{◌≡◌, refl, sym, ap, ◌∙◌}
-use mathlib.Core.List.{List, [], ◌∷◌, ◌++◌, append-nil}
-use mathlib.Core.Logic.{◌↔◌}
-use mathlib.Core.Bool.{Bool, true, false, cond, not, ◌&&◌}
+use mathlib.Core.List.{List, [], ◌∷◌, ◌++◌, append-nil, reverse}
+use mathlib.Core.Logic.{◌↔◌, ◌⊎◌, inl, inr}
+use mathlib.Core.Bool.{Bool, true, false, cond, not, ◌&&◌, and-false}
 use native.Mathlib.Numerals.{add-one, sub-one}
 use native.Mathlib.Nat.{le_refl, not-suc-le-zero, sub-zero, sub_self}
 use native.Mathlib.Omega.{arith}
 use lib.ListN.{length, get_or, take, drop, replicate, length-take, length-append}
-use lib.Seq.{append_snoc, slice, slice-cons, slice_empty, length-slice, take-nil, take-suc, take-take, drop-drop, drop-append-le, length-take-le}
+use lib.Seq.{append_snoc, slice, slice-cons, length-slice, take-nil, take-suc, take-take, drop-drop, drop-append-le, length-take-le}
 use lib.Dec.{leb}
 use borrow.Author.Tests.{eq-eqb, ne_eqb, le-leb, lt-leb, leb-true, not-true}
+use Rattle.std.specs.List.{prefix_len, take_while, slice_range}
+use Rattle.std.proofs.lemmas.List.{length-reverse, reverse-append, reverse-reverse}
+use Rattle.std.proofs.lemmas.List.Folds.{length-prefix_len}
 use Rattle.line_bytes.specs.declared.Span.{Span}
 use Rattle.line_bytes.specs.Bytes.{is_space, every}
 use Rattle.line_bytes.specs.Spaces.{trim_front, keep, trim_end, trim, indent, trim_span}
@@ -245,40 +248,62 @@ module _ (s : List ℕ) where
   trim_end-stop a zero h l f = absurd (not-suc-le-zero h)
   trim_end-stop a (suc k) h l f = rw (slice_snoc a k (omega arith) l) (trim_end-other (slice a k s) (get_or s k 0) (ne_eqb _ 32 (rw sub-one at f)))
 
-  pub trim_end-step : (a j : ℕ) → a < j → j ≤ length s → get_or s (j - 1) 0 ≡ 32 → trim_end (slice a j s) ≡ trim_end (slice a (j - 1) s)
-  trim_end-step a zero h l e = absurd (not-suc-le-zero h)
-  trim_end-step a (suc k) h l e = rw (sub-one, slice_snoc a k (omega arith) l) (trim_end-space (slice a k s) (get_or s k 0) (eq-eqb _ 32 (rw sub-one at e)))
-
-  pub trim_end-none : (a j : ℕ) → j ≤ a → a ≤ j → trim_end (slice a j s) ≡ slice a j s
-  unfolding trim_end
-  trim_end-none a j h k = let e : j ≡ a = omega arith in rw (e, slice_empty)
-
   pub trim_front-stop : (i e : ℕ) → i < e → e ≤ length s → (get_or s i 0 ≡ 32 → ⊥) → trim_front (slice i e s) ≡ slice i e s
   trim_front-stop i e h l f = rw (slice-cons i e s 0 h l) (trim_front-other _ _ (ne_eqb _ 32 f))
 
   pub trim_front-step : (i e : ℕ) → i < e → e ≤ length s → get_or s i 0 ≡ 32 → trim_front (slice i e s) ≡ trim_front (slice (i + 1) e s)
   trim_front-step i e h l q = rw (add-one i, slice-cons i e s 0 h l) (trim_front-space _ _ (eq-eqb _ 32 q))
 
-  pub trim_front-none : (i e : ℕ) → e ≤ i → i ≤ e → trim_front (slice i e s) ≡ slice i e s
-  unfolding trim_front
-  trim_front-none i e h k = let q : i ≡ e = omega arith in rw (q, slice_empty)
+-- ---- how many spaces stand at each end
+front_spaces : (t : List ℕ) → length (trim_front t) + prefix_len is_space t ≡ length t
+unfolding trim_front
+front_spaces [] = refl
+front_spaces (x ∷ xs) = go (is_space x) (front_spaces xs)
+  where
+    go : (b : Bool) → length (trim_front xs) + prefix_len is_space xs ≡ length xs
+        → length (cond b (trim_front xs) (x ∷ xs)) + cond b (1 + prefix_len is_space xs) 0 ≡ suc (length xs)
+    go true h = omega (arith, h)
+    go false h = omega arith
+
+back_spaces : (r : List ℕ) → length (trim_end (reverse r)) + prefix_len is_space r ≡ length r
+unfolding trim_end
+back_spaces [] = refl
+back_spaces (x ∷ r) = rw (reverse-append (x ∷ []) r) (go (is_space x) refl (back_spaces r))
+  where
+    go : (b : Bool) → is_space x ≡ b → length (trim_end (reverse r)) + prefix_len is_space r ≡ length r
+        → length (trim_end (reverse r ++ x ∷ [])) + cond b (1 + prefix_len is_space r) 0 ≡ suc (length r)
+    go true e h = rw (trim_end-space (reverse r) x e) (omega (arith, h))
+    go false e h = rw (trim_end-other (reverse r) x e) (omega (arith, length-append (reverse r) (x ∷ []), length-reverse r))
+
+end_spaces : (t : List ℕ) → length (trim_end t) + prefix_len is_space (reverse t) ≡ length t
+end_spaces t = rw (reverse-reverse t, length-reverse t) at (back_spaces (reverse t))
 
 -- ---- the place of a trimmed part
 module _ (s : List ℕ) (a e : ℕ) where
-  pub span-before : e < a → ◌≡◌ {A = Span} (record { start = 0; len = 0 }) (trim_span s a e)
+  pub span_other : (e < a) ⊎ (length s < e) → ◌≡◌ {A = Span} (record { start = 0; len = 0 }) (trim_span s a e)
   unfolding trim_span
-  span-before h = rw (lt-leb a e h)
+  span_other (inl h) = rw (lt-leb a e h)
+  span_other (inr k) = rw (lt-leb e (length s) k, and-false (leb a e))
 
   module _ (h : a ≤ e) where
     pub span_past : length s < e → ◌≡◌ {A = Span} (record { start = 0; len = 0 }) (trim_span s a e)
-    unfolding trim_span
-    span_past k = rw (le-leb a e h, lt-leb e (length s) k)
+    span_past k = span_other (inr k)
 
     module _ (k : e ≤ length s) where
-      pub span-end : (z : ℕ) → a ≤ z → z ≤ e → trim_end (slice a e s) ≡ slice a z s → (z ≡ a + length (trim_end (slice a e s))) × (a ≤ z) × (z ≤ e) × (trim_end (slice a e s) ≡ slice a z s)
-      span-end z l m q =
-          let n : length (trim_end (slice a e s)) ≡ z - a = ap length q ∙ length-slice a z s (omega arith) in
-          (omega arith, l, m, q)
+      pub span-counted : (t : List ℕ) (m f : ℕ) → t ≡ slice_range s a e → m ≡ length (take_while is_space (reverse t)) → f ≡ length (take_while is_space (take (length t - m) t))
+          → ◌≡◌ {A = Span} (record { start = a + f; len = (length t - m) - f }) (trim_span s a e)
+      unfolding trim_span indent trim
+      span-counted t m f p q r =
+          let g : t ≡ slice a e s = p ∙ sym (slice-take a e s) in
+          let x = end_spaces t in
+          let n : m ≡ prefix_len is_space (reverse t) = q ∙ length-prefix_len is_space (reverse t) in
+          let l : length t - m ≡ length (trim_end t) = omega (arith, n, x) in
+          let u : take (length t - m) t ≡ trim_end t = ap (λ (j : ℕ). take j t) l ∙ sym (trim_end-take t) in
+          let v : f ≡ prefix_len is_space (trim_end t) = r ∙ length-prefix_len is_space (take (length t - m) t) ∙ ap (prefix_len is_space) u in
+          let y = front_spaces (trim_end t) in
+          let i : a + f ≡ a + (length (trim_end t) - length (trim_front (trim_end t))) = omega (arith, v, y) in
+          let j : (length t - m) - f ≡ length (trim_front (trim_end t)) = omega (arith, l, v, y) in
+          rw (le-leb a e h, le-leb e (length s) k, sym g) (λ z. record { start = i z; len = j z })
 
       pub span-within : (z b : ℕ) → z ≤ e → a ≤ b → b ≤ z → trim_end (slice a e s) ≡ slice a z s → trim_front (slice a z s) ≡ slice b z s → ◌≡◌ {A = Span} (record { start = b; len = z - b }) (trim_span s a e)
       unfolding trim_span indent trim

@@ -1,4 +1,5 @@
-// The kinds of columns and headers, as the numbers that the code keeps for them (codeOf, which the crate verdicts defines).
+// The kinds of columns and headers, as the numbers that the code keeps for them (code_of, which the crate verdicts defines).
+// No enum: text::judge and the other public calls take any byte as a kind, and the exports hand the number on.
 pub const MEASURED: u8 = 0;
 
 pub const LATITUDE: u8 = 1;

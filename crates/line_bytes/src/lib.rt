@@ -14,13 +14,6 @@ mod names;
 pub mod refusals;
 mod spaces;
 
-// Where a search of a line ends.
-#[derive(Clone, Copy)]
-pub enum Found {
-    At(usize),
-    Nowhere,
-}
-
 // A part of the lent bytes, by place.
 #[derive(Clone, Copy)]
 pub struct Span {
@@ -29,128 +22,90 @@ pub struct Span {
 }
 
 // Where the first ill-formed UTF-8 sequence of a line starts.
-pub fn ill_formed(line: &[u8]) -> Found
+pub fn ill_formed(line: &[u8]) -> Option<usize>
     ensures { result ≡ ill_formed line.now }
 {
     let rows = utf8::table();
     let mut i = 0;
+    // By hand: a step is as long as the character there.
     while i < line.len() {
         let n = utf8::character(&rows, &line[i..]);
         if n == 0 {
-            return Found::At(i);
+            return Some(i);
         }
         i += n;
     }
-    Found::Nowhere
+    None
 }
 
 // The first byte 0D of a line.
-pub fn first_return(line: &[u8]) -> Found
+#[tactic(auto, unfolding(crate::specs::Lines::return_at))]
+pub fn first_return(line: &[u8]) -> Option<usize>
     ensures { result ≡ return_at line.now }
 {
-    let mut i = 0;
-    while i < line.len() {
-        if line[i] == 0x0d {
-            return Found::At(i);
-        }
-        i += 1;
-    }
-    Found::Nowhere
+    line.iter().position(|&x| x == 0x0d)
 }
 
 // The first byte of a line that is below 20 or equals 7F.
-pub fn first_control(line: &[u8]) -> Found
+#[tactic(auto, unfolding(crate::specs::Lines::control_at))]
+pub fn first_control(line: &[u8]) -> Option<usize>
     ensures { result ≡ control_at line.now }
 {
-    let mut i = 0;
-    while i < line.len() {
-        if (line[i] < 0x20) | (line[i] == 0x7f) {
-            return Found::At(i);
-        }
-        i += 1;
-    }
-    Found::Nowhere
+    line.iter().position(|&x| x < 0x20 || x == 0x7f)
 }
 
 // The bytes from a to e without the spaces at both ends, as a part of the lent bytes themselves.
 pub fn trimmed(s: &[u8], a: usize, e: usize) -> &[u8]
     ensures { IsPart s.entry result (trim_span s.now a e) }
 {
-    let p = trim_span(s, a, e);
-    let b = p.start;
-    let n = p.len;
-    &s[b..b + n]
+    let Span { start, len } = trim_span(s, a, e);
+    &s[start..start + len]
 }
 
 // Where they stand.
 pub fn trim_span(s: &[u8], a: usize, e: usize) -> Span
     ensures { result ≡ trim_span s.now a e }
 {
-    if e < a {
+    let Some(t) = s.get(a..e) else {
         return Span { start: 0, len: 0 };
-    }
-    if s.len() < e {
-        return Span { start: 0, len: 0 };
-    }
-    let z = spaces::end_of(s, a, e);
-    let b = spaces::start_of(s, a, z);
+    };
+    let end = t.len() - spaces::at_end(t);
+    let start = spaces::in_front(&t[..end]);
     Span {
-        start: b,
-        len: z - b,
+        start: a + start,
+        len: end - start,
     }
 }
 
-// Whether two texts have the same bytes.
+// Whether two texts have the same bytes: `==`, by the specs' word for it.
+#[tactic(auto, using(crate::proofs::EqualLaws::equal_told))]
 pub fn same<'a>(x: &'a [u8], y: &'a [u8]) -> bool
     ensures { result ≡ equal x.now y.now }
 {
-    if x.len() != y.len() {
-        return false;
-    }
-    let mut i = 0;
-    while i < x.len() {
-        if x[i] != y[i] {
-            return false;
-        }
-        i += 1;
-    }
-    true
+    x == y
 }
 
 // Whether a text is a column or header name by its bytes.
+#[tactic(auto, using(crate::proofs::EveryLaws::every_listed), unfolding(crate::specs::Names::is_name))]
 pub fn is_name(t: &[u8]) -> bool
     ensures { result ≡ is_name t.now }
 {
-    if t.len() < 1 {
-        return false;
-    }
-    let mut i = 0;
-    while i < t.len() {
-        if !names::is_name_byte(t[i]) {
-            return false;
-        }
-        i += 1;
-    }
-    true
+    !t.is_empty() && names::all_name_bytes(t)
 }
 
-// How many bytes of a flag column's name are its parameter's; 0 where the name is no flag column's.
+// How many bytes of a flag column's name are its parameter's; 0 where the name is no flag column's, and no Option, as the definition has it.
 pub fn parameter_length(t: &[u8]) -> usize
     ensures { result ≡ parameter_length t.now }
 {
-    if t.len() < 8 {
-        return 0;
+    match t.strip_suffix(b"_FLAG_W") {
+        Some(parameter) => parameter.len(),
+        None => 0,
     }
-    let k = t.len() - 7;
-    if same(&t[k..], b"_FLAG_W") { k } else { 0 }
 }
 
 // Whether a parameter has the CTD flags.
 pub fn begins_ctd(t: &[u8]) -> bool
     ensures { result ≡ begins_ctd t.now }
 {
-    if t.len() < 3 {
-        return false;
-    }
-    same(&t[..3], b"CTD")
+    t.starts_with(b"CTD")
 }

@@ -1,9 +1,11 @@
 // The bytes of names.
 ghost use Rattle.std.specs.Prelude.{◌≡◌};
+ghost use Rattle.std.specs.List.{list_all};
 ghost use Rattle.line_bytes.specs.Names.{name_byte};
 
-pub fn is_name_byte(x: u8) -> bool
-    ensures { result ≡ name_byte x }
+// Whether each byte of a text may stand in a name.
+pub fn all_name_bytes(t: &[u8]) -> bool
+    ensures { result ≡ list_all name_byte t.now }
 {
-    (0x21 <= x) & (x <= 0x7e) & (x != b',') & !((b'a' <= x) & (x <= b'z'))
+    t.iter().all(|&x| matches!(x, 0x21..=0x7e) && !matches!(x, b',' | b'a'..=b'z'))
 }

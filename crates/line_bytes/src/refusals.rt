@@ -1,4 +1,5 @@
 // The refusal numbers of document 01, each under a name for the words of its table, and 29 of document 02; 0 is no refusal.
+// No enum: they are the documents' numbers, which the C interface hands out and `breaks` of format's specs names.
 pub const LINE_TOO_LONG: u64 = 1;
 
 pub const NO_LINE_FEED: u64 = 2;

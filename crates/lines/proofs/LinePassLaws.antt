@@ -1,13 +1,14 @@
 -- The line pass: plain bytes up to a line feed break no rule of a line; where another byte stands, the line feed is looked for and the rules are read one by one.
 use Prim.Native.Nat.{ℕ, ◌+◌, ◌-◌, ◌≤◌, ◌<◌}
-use mathlib.Core.Path.{◌≡◌, refl, sym}
+use mathlib.Core.Path.{◌≡◌, refl, sym, subst, ◌∙◌}
 use mathlib.Core.List.{List}
-use mathlib.Core.Bool.{Bool, true, false, cond, ◌||◌, true≢false}
+use mathlib.Core.Bool.{Bool, true, false, cond, ◌&&◌, true≢false}
 use native.Mathlib.Omega.{arith}
-use lib.ListN.{length, get_or, take, drop, drop_of_length-le}
+use lib.ListN.{length, get_or, take, drop, drop_of_length-le, length-take, length-drop}
+use lib.Seq.{get_or-drop, get_or-take}
 use lib.Dec.{ltb}
-use borrow.Author.Tests.{ne_eqb, ltb-false, lt-ltb, le-ltb, le-leb, lt-leb}
-use Rattle.line_bytes.specs.declared.Found.TheVariants.{At, Nowhere}
+use borrow.Author.Tests.{ne_eqb, lt-ltb, le-ltb, le-leb, lt-leb}
+use Rattle.std.specs.Prelude.{Some, None, Ok, Err}
 use Rattle.line_bytes.specs.Bytes.{every}
 use Rattle.line_bytes.specs.Cells.{first_piece, line_at}
 use Rattle.line_bytes.specs.Lines.{ill_formed, return_at, control_at}
@@ -15,7 +16,6 @@ use Rattle.line_bytes.specs.Inner.Scans.{Scan}
 use Rattle.line_bytes.proofs.CellLaws.{line_in_lem, line-end, scan_undo}
 use Rattle.line_bytes.specs.Inner.Lines.{is_plain}
 use Rattle.line_bytes.proofs.LineLaws.{plain_well_formed, plain_no_return, plain_no_control}
-use Rattle.format.specs.declared.Line.{Line}
 use Rattle.format.specs.Faults.{clean, breaks, ◌then◌, first_of}
 use Rattle.format.specs.LineRules.{found_fault, line_rules, byte_rules, unended_rules}
 use Rattle.format.specs.Inner.Faults.{byte_fault, line_fault, unended_fault}
@@ -27,24 +27,25 @@ pub scan-join : {t : ℕ → Bool} {s : List ℕ} {i j k : ℕ} → Scan t s i j
 scan-join r Scan.still = r
 scan-join r (Scan.more q h e) = Scan.more (scan-join r q) h e
 
--- the code's test of a byte
-plain_byte : (x : ℕ) → (ltb x 32 || ltb 126 x) ≡ false → is_plain x ≡ true
-plain_byte x e = go (ltb x 32) (ltb 126 x) refl refl e
-  where
-    go : (a b : Bool) → ltb x 32 ≡ a → ltb 126 x ≡ b → (a || b) ≡ false → is_plain x ≡ true
-    go true b p q e = absurd (true≢false e)
-    go false true p q e = absurd (true≢false e)
-    go false false p q e = rw (le-leb 32 x (ltb-false x 32 p), le-leb x 126 (ltb-false 126 x q))
+-- a block of n bytes from i on, read up to its byte k
+pub block-none : (t : ℕ → Bool) (s : List ℕ) (i : ℕ) → Scan t s i (i + 0)
+block-none t s i = let e : i + 0 ≡ i = omega arith in rw e Scan.still
 
--- one byte more
-pub plain-next : {s : List ℕ} {i k : ℕ} → Scan is_plain s i k → k < length s → (ltb (get_or s k 0) 32 || ltb 126 (get_or s k 0)) ≡ false → Scan is_plain s i (k + 1)
-plain-next {s} {i} {k} r l e = Scan.more r l (plain_byte (get_or s k 0) e)
+module _ (s : List ℕ) (i n k : ℕ) where
+  pub block-more : (plain p : Bool) → i + n ≤ length s → k < length (take (i + n - i) (drop i s)) → (plain ≡ true → Scan is_plain s i (i + k))
+      → p ≡ is_plain (get_or (take (i + n - i) (drop i s)) k 0) → (plain && p) ≡ true → Scan is_plain s i (i + (k + 1))
+  block-more true p f l r e z =
+      let m : k < i + n - i = omega (arith, l, length-take (i + n - i) (drop i s)) in
+      let a : i + (k + 1) ≡ i + k + 1 = omega arith in
+      let b : is_plain (get_or s (i + k) 0) ≡ true = rw (sym (get_or-drop i s k 0), sym (get_or-take (i + n - i) (drop i s) k 0 m)) (sym e ∙ z) in
+      rw a (Scan.more (r refl) (omega arith) b)
+  block-more false p f l r e z = absurd (true≢false (sym z))
 
--- one byte more of a block
-pub plain_more : (s : List ℕ) (i k : ℕ) (odd : Bool) → k < length s → (odd ≡ false → Scan is_plain s i k)
-    → (odd || ltb (get_or s k 0) 32) || ltb 126 (get_or s k 0) ≡ false → Scan is_plain s i (k + 1)
-plain_more s i k true l g e = absurd (true≢false e)
-plain_more s i k false l g e = plain-next (g refl) l e
+  pub block-whole : (plain : Bool) → i + n ≤ length s → k ≤ length (take (i + n - i) (drop i s)) → length (take (i + n - i) (drop i s)) ≤ k
+      → (plain ≡ true → Scan is_plain s i (i + k)) → plain ≡ true → Scan is_plain s i (i + n)
+  block-whole plain f l h r z =
+      let e : i + k ≡ i + n = omega (arith, f, l, h, length-take (i + n - i) (drop i s), length-drop i s) in
+      subst (λ (j : ℕ). Scan is_plain s i j) e (r z)
 
 -- up to a line feed: the line, of plain bytes
 plain_up-to : (s : List ℕ) (i q : ℕ) → Scan is_plain s i q → q < length s → get_or s q 0 ≡ 10
@@ -64,8 +65,7 @@ cond-clean : (b : Bool) → cond b clean clean ≡ clean
 cond-clean true = refl
 cond-clean false = refl
 
-pub line_plain : (control : Bool) (s : List ℕ) (i q : ℕ) → Scan is_plain s i q → q < length s → q ≤ i + 8192 → get_or s q 0 ≡ 10
-    → ◌≡◌ {A = Line} (record { end = q; number = 0; column = 0 }) (line_of control s i)
+pub line_plain : (control : Bool) (s : List ℕ) (i q : ℕ) → Scan is_plain s i q → q < length s → q ≤ i + 8192 → get_or s q 0 ≡ 10 → Ok q ≡ line_of control s i
 unfolding line_of line_fault_at line_fault line_rules byte_rules first_of
 line_plain control s i q r l h f =
     let w = plain_up-to s i q r l f in
@@ -74,16 +74,16 @@ line_plain control s i q r l h f =
 
 -- ---- the line whose end was looked for
 module _ (control : Bool) (s : List ℕ) (i e : ℕ) (d : e ≡ i + length (line_at s i)) where
-  pub odd-long : 8192 < e - i → ◌≡◌ {A = Line} (record { end = 0; number = 1; column = 8193 }) (line_of control s i)
+  pub odd-long : 8192 < e - i → Err (record { number = 1; column = 8193 }) ≡ line_of control s i
   unfolding line_of line_fault_at line_fault line_rules byte_rules first_of unended_fault unended_rules
   odd-long z = rw (lt-leb (length (line_at s i)) 8192 (omega arith)) (go (ltb (i + length (line_at s i)) (length s)))
     where
-      go : (b : Bool) → ◌≡◌ {A = Line} (record { end = 0; number = 1; column = 8193 }) (line_for (cond b (breaks 1 8193) (breaks 1 8193)) (i + length (line_at s i)))
+      go : (b : Bool) → Err (record { number = 1; column = 8193 }) ≡ line_for (cond b (breaks 1 8193) (breaks 1 8193)) (i + length (line_at s i))
       go true = refl
       go false = refl
 
   module _ (z : e - i ≤ 8192) where
-    pub odd_cut : length s ≤ e → ◌≡◌ {A = Line} (record { end = 0; number = 2; column = e - i + 1 }) (line_of control s i)
+    pub odd_cut : length s ≤ e → Err (record { number = 2; column = e - i + 1 }) ≡ line_of control s i
     unfolding line_of line_fault_at unended_fault unended_rules first_of
     odd_cut h =
         let u : length (line_at s i) ≡ e - i = omega arith in
@@ -96,32 +96,29 @@ module _ (control : Bool) (s : List ℕ) (i e : ℕ) (d : e ≡ i + length (line
         rw (u, piece-take, sym d, lt-ltb e (length s) h, le-leb (length (line_at s i)) 8192 (omega arith))
 
 -- ---- rules 3, 4 and 5
-module _ (control : Bool) (x : List ℕ) (e j : ℕ) where
-  pub bytes-ill_formed : ill_formed x ≡ At j → ◌≡◌ {A = Line} (record { end = 0; number = 3; column = j + 1 }) (line_for (byte_fault control x) e)
+module _ (control : Bool) (x : List ℕ) (j : ℕ) where
+  pub bytes-ill_formed : ill_formed x ≡ Some j → byte_fault control x ≡ breaks 3 (j + 1)
   unfolding byte_fault byte_rules first_of
   bytes-ill_formed a = rw a
 
-  pub bytes_return : ill_formed x ≡ Nowhere → return_at x ≡ At j → ◌≡◌ {A = Line} (record { end = 0; number = 4; column = j + 1 }) (line_for (byte_fault control x) e)
+  pub bytes_return : ill_formed x ≡ None → return_at x ≡ Some j → byte_fault control x ≡ breaks 4 (j + 1)
   unfolding byte_fault byte_rules first_of
   bytes_return a b = rw (a, b)
 
-  pub bytes_control : ill_formed x ≡ Nowhere → return_at x ≡ Nowhere → control ≡ true → control_at x ≡ At j
-      → ◌≡◌ {A = Line} (record { end = 0; number = 5; column = j + 1 }) (line_for (byte_fault control x) e)
+  pub bytes_control : ill_formed x ≡ None → return_at x ≡ None → control ≡ true → control_at x ≡ Some j → byte_fault control x ≡ breaks 5 (j + 1)
   unfolding byte_fault byte_rules first_of
   bytes_control a b d f = rw (a, b, d, f)
 
-module _ (control : Bool) (x : List ℕ) (e : ℕ) where
-  pub bytes-clean : ill_formed x ≡ Nowhere → return_at x ≡ Nowhere → (control ≡ true → control_at x ≡ Nowhere)
-      → ◌≡◌ {A = Line} (record { end = e; number = 0; column = 0 }) (line_for (byte_fault control x) e)
+module _ (control : Bool) (x : List ℕ) where
+  pub bytes-clean : ill_formed x ≡ None → return_at x ≡ None → (control ≡ true → control_at x ≡ None) → byte_fault control x ≡ clean
   unfolding byte_fault byte_rules first_of
   bytes-clean a b f = rw (a, b) (go control f)
     where
-      go : (c : Bool) → (c ≡ true → control_at x ≡ Nowhere)
-          → ◌≡◌ {A = Line} (record { end = e; number = 0; column = 0 }) (line_for (cond c (found_fault 5 (control_at x)) clean then clean) e)
+      go : (c : Bool) → (c ≡ true → control_at x ≡ None) → (cond c (found_fault 5 (control_at x)) clean then clean) ≡ clean
       go true f = rw (f refl)
       go false f = refl
 
 -- past the last byte there is a line without its line feed
-pub line_past : (control : Bool) (s : List ℕ) (i : ℕ) → length s ≤ i → ◌≡◌ {A = Line} (record { end = 0; number = 2; column = 1 }) (line_of control s i)
+pub line_past : (control : Bool) (s : List ℕ) (i : ℕ) → length s ≤ i → Err (record { number = 2; column = 1 }) ≡ line_of control s i
 unfolding line_of line_fault_at unended_fault unended_rules first_of first_piece
 line_past control s i h = rw (drop_of_length-le s h) (rw (le-ltb (i + 0) (length s) (omega arith)))

@@ -2,7 +2,6 @@
 ghost use Rattle.std.specs.Prelude.{◌≡◌, true, cond, ◌+◌, ltb};
 ghost use Rattle.line_bytes.specs.Cells.{first_piece, pieces};
 ghost use Rattle.orders.specs.ListLines.{is_one_line, by_fields};
-ghost use Rattle.orders.specs.ListLines as spec;
 
 use orders::ListLine;
 use text::{Span, kinds, refusals};
@@ -10,34 +9,24 @@ use text::{Span, kinds, refusals};
 // What parts the fields.
 const TAB: u8 = b'\t';
 
-pub fn malformed() -> ListLine
-    ensures { result ≡ spec.malformed }
-{
-    ListLine {
-        number: refusals::MALFORMED_LIST_LINE,
-        row: 0,
-        name: Span { start: 0, len: 0 },
-        millionths: 0,
-        decimals: 0,
-        flag: 0,
-    }
-}
+// The answer for a line that has not these fields.
+pub const MALFORMED: ListLine = ListLine {
+    number: refusals::MALFORMED_LIST_LINE,
+    row: 0,
+    name: Span { start: 0, len: 0 },
+    millionths: 0,
+    decimals: 0,
+    flag: 0,
+};
 
 // Whether the last byte is the one line feed, and no byte a space.
 pub fn is_one_line(line: &[u8]) -> bool
     ensures { result ≡ is_one_line line.now }
 {
-    let mut i = 0;
-    while i < line.len() {
-        if line[i] == b' ' {
-            return false;
-        }
-        if line[i] == b'\n' {
-            return i + 1 == line.len();
-        }
-        i += 1;
+    match line {
+        [rest @ .., b'\n'] => rest.iter().all(|b| !matches!(b, b'\n' | b' ')),
+        _ => false,
     }
-    false
 }
 
 // Where the next field starts after one that ends at `at`; behind the last, the line feed at e stands for an empty one, which no rule lets pass.
@@ -63,7 +52,7 @@ pub fn fields_of(line: &[u8]) -> ListLine
     let is_name = text::is_name(&line[start..end]);
     let is_good = is_row & is_name & ((value.number == 0) & (flag.number == 0));
     if !(is_good & (flag.at == e)) {
-        return malformed();
+        return MALFORMED;
     }
     ListLine {
         number: 0,

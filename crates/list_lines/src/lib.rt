@@ -15,7 +15,7 @@ pub fn read_list_line(line: &[u8]) -> ListLine
     ensures { result ≡ line_read line.now }
 {
     if !fields::is_one_line(line) {
-        return fields::malformed();
+        return fields::MALFORMED;
     }
     fields::fields_of(line)
 }

@@ -1,116 +1,77 @@
-// Names by place: name k stands, with its spaces, from starts[k] to ends[k]. Where one stands, the first bad or repeated one, and the station names.
+// Names by place: each stands, with its spaces, at its place. Where one of them is, the first bad or repeated one, and the station names.
 
 #![tactic(auto)]
 
-ghost use Rattle.std.specs.Prelude.{◌≡◌, min, ◌≤◌, [], length, get_or};
-ghost use Rattle.format.specs.Faults.{has_all, place_in};
+ghost use Rattle.std.specs.Prelude.{◌≡◌, ◌+◌, [], get_or, position};
+ghost use Rattle.line_bytes.specs.Bytes.{equal};
+ghost use Rattle.format.specs.Faults.{has_all};
 ghost use Rattle.format.specs.Headers.{station_names};
 ghost use Rattle.format.specs.Inner.Names.{fault_in, text_in, names_at};
 
 use format::NameFault;
+use text::Span;
 
-// The place at k; 0 where there is none.
-fn place_at(places: &[usize], k: usize) -> usize
-    ensures { result ≡ get_or places.now k 0 }
+// The names of a station.
+const STATION_NAMES: [&[u8]; 6] = [
+    b"EXPOCODE",
+    b"STNNBR",
+    b"CASTNO",
+    b"DATE",
+    b"LATITUDE",
+    b"LONGITUDE",
+];
+
+// The name that stands at a place, without its spaces.
+fn name_of(s: &[u8], place: Span) -> &[u8]
+    ensures { result.now ≡ text_in s.now place.start (place.start + place.len) }
 {
-    if k < places.len() { places[k] } else { 0 }
+    text::trimmed(s, place.start, place.start.saturating_add(place.len))
 }
 
-fn least(a: usize, b: usize) -> usize
-    ensures { result ≡ min a b }
+// Name k, from 0; the empty text where there is none.
+pub fn name_at<'a>(s: &'a [u8], places: &'a [Span], k: usize) -> &'a [u8]
+    ensures { result.now ≡ get_or (names_at s.now places.now) k [] }
 {
-    if a < b { a } else { b }
-}
-
-// How many of the first n names have both their places.
-fn count_of<'a>(starts: &'a [usize], ends: &'a [usize], n: usize) -> usize
-    ensures { result ≡ min n (min (length starts.now) (length ends.now)) }
-{
-    least(n, least(starts.len(), ends.len()))
-}
-
-// Name k, without its spaces.
-pub fn name_at<'a>(s: &'a [u8], starts: &'a [usize], ends: &'a [usize], k: usize) -> &'a [u8]
-    ensures { result.now ≡ text_in s.now (get_or starts.now k 0) (get_or ends.now k 0) }
-{
-    text::trimmed(s, place_at(starts, k), place_at(ends, k))
-}
-
-// The place of a name among the first n, which all have their places; n where it is not there.
-fn place_among<'a>(
-    s: &'a [u8],
-    starts: &'a [usize],
-    ends: &'a [usize],
-    n: usize,
-    name: &'a [u8],
-) -> usize
-    requires { (n ≤ length starts.now) × (n ≤ length ends.now) }
-    ensures { (result ≡ place_in name.now (names_at s.now n starts.now ends.now)) × (result ≤ n) }
-{
-    let mut k = 0;
-    while k < n {
-        if text::same(name_at(s, starts, ends, k), name) {
-            return k;
-        }
-        k += 1;
+    match places.get(k) {
+        Some(place) => name_of(s, *place),
+        None => &[],
     }
-    n
 }
 
-// The place of a name among the first n; their number where it is not there.
-pub fn place_of<'a>(
-    s: &'a [u8],
-    starts: &'a [usize],
-    ends: &'a [usize],
-    n: usize,
-    name: &'a [u8],
-) -> usize
-    ensures { result ≡ place_in name.now (names_at s.now n starts.now ends.now) }
+// Which of the names is the one given, the first being 0.
+pub fn place_of<'a>(s: &'a [u8], places: &'a [Span], name: &'a [u8]) -> Option<usize>
+    ensures { result ≡ position (λ x. equal x name.now) (names_at s.now places.now) }
 {
-    place_among(s, starts, ends, count_of(starts, ends, n), name)
+    places
+        .iter()
+        .position(|place| text::same(name_of(s, *place), name))
 }
 
-// The first of n names, which all have their places, that is bad or is the same as an earlier one: each name is compared with every earlier one.
-fn fault_among<'a>(s: &'a [u8], starts: &'a [usize], ends: &'a [usize], n: usize) -> NameFault
-    requires { (n ≤ length starts.now) × (n ≤ length ends.now) }
-    ensures { result ≡ fault_in [] (names_at s.now n starts.now ends.now) 0 }
+// The first name that is bad or is the same as an earlier one: each name is compared with every earlier one, by nested loops left by a label, as document 01 asks.
+pub fn first_fault<'a>(s: &'a [u8], places: &'a [Span]) -> Option<NameFault>
+    ensures { result ≡ fault_in [] (names_at s.now places.now) 0 }
 {
-    let mut found = NameFault::Clean;
-    let mut k = 0;
-    'names: while k < n {
-        if !text::is_name(name_at(s, starts, ends, k)) {
-            found = NameFault::Bad(k);
+    let mut found = None;
+    'names: for k in 0..places.len() {
+        if !text::is_name(name_at(s, places, k)) {
+            found = Some(NameFault::Bad(k));
             break 'names;
         }
-        let mut j = 0;
-        while j < k {
-            if text::same(name_at(s, starts, ends, j), name_at(s, starts, ends, k)) {
-                found = NameFault::Repeated(k);
+        for j in 0..k {
+            if text::same(name_at(s, places, j), name_at(s, places, k)) {
+                found = Some(NameFault::Repeated(k));
                 break 'names;
             }
-            j += 1;
         }
-        k += 1;
     }
     found
 }
 
-// The first of n names that is bad or is the same as an earlier one.
-pub fn first_fault<'a>(s: &'a [u8], starts: &'a [usize], ends: &'a [usize], n: usize) -> NameFault
-    ensures { result ≡ fault_in [] (names_at s.now n starts.now ends.now) 0 }
+// Whether the six station names are among them.
+pub fn has_station<'a>(s: &'a [u8], places: &'a [Span]) -> bool
+    ensures { result ≡ has_all station_names (names_at s.now places.now) }
 {
-    fault_among(s, starts, ends, count_of(starts, ends, n))
-}
-
-// Whether the six required station names are among the first n.
-pub fn has_station<'a>(s: &'a [u8], starts: &'a [usize], ends: &'a [usize], n: usize) -> bool
-    ensures { result ≡ has_all station_names (names_at s.now n starts.now ends.now) }
-{
-    let most = count_of(starts, ends, n);
-    (place_among(s, starts, ends, most, b"EXPOCODE") < most)
-        & (place_among(s, starts, ends, most, b"STNNBR") < most)
-        & (place_among(s, starts, ends, most, b"CASTNO") < most)
-        & (place_among(s, starts, ends, most, b"DATE") < most)
-        & (place_among(s, starts, ends, most, b"LATITUDE") < most)
-        & (place_among(s, starts, ends, most, b"LONGITUDE") < most)
+    STATION_NAMES
+        .iter()
+        .all(|name| place_of(s, places, name).is_some())
 }

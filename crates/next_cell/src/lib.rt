@@ -1,4 +1,5 @@
 // The next cell of a file from the place where it starts, in one pass over its bytes, for whoever walks from cell to cell. Any bytes and any place may come in.
+// By hand: with a `for` over slices, one function of their number for the spaces, and iterators in grid, a walk took 1.06 times as many instructions.
 
 #![tactic(auto)]
 

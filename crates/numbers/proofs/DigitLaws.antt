@@ -121,23 +121,9 @@ whole-numeral (suc k) n h =
     (λ l. numeral-append 0 (whole_digits k (n / 10)) _ ∙ numeral-digit (numeral 0 (whole_digits k (n / 10))) n ∙ omega arith)
 
 -- ---- one digit after the other, from the right
-whole_fuel : (k n : ℕ) → n < 10 ^ suc k → whole_digits k n ≡ whole_digits (suc k) n
-unfolding whole_digits
-whole_fuel zero n h = rw (lt-ltb n 10 h)
-whole_fuel (suc k) n h =
-    let p : n < 10 ^ suc k * 10 = rw pow-suc at h in
-    ap (λ (xs : List ℕ). cond (ltb n 10) ((48 + n % 10) ∷ []) (xs ++ (48 + n % 10) ∷ [])) (whole_fuel k (n / 10) (omega arith))
-
 pub whole_one : (n : ℕ) → n < 10 → length (whole_text n) ≡ 1
 unfolding whole_digits
 whole_one n h = rw (lt-ltb n 10 h)
-
-pub whole-more : (n : ℕ) → 10 ≤ n → n < 10 ^ 20 → length (whole_text n) ≡ length (whole_text (n / 10)) + 1
-whole-more n h l = whole_by (λ xs. length xs ≡ length (whole_text (n / 10)) + 1) 18 n (λ k. absurd (omega arith))
-    (λ k. one_more (whole_digits 18 (n / 10)) (48 + n % 10) ∙ ap (λ (xs : List ℕ). length xs + 1) (whole_fuel 18 (n / 10) (omega arith)))
-
-pub whole-few : (n : ℕ) → n < 10 ^ 20 → length (whole_text n) ≤ 20
-whole-few n h = whole_length 19 19 n h
 
 refl-last : (n : ℕ) → (48 + n % 10) ∷ [] ≡ last_digits 1 n
 unfolding last_digits
@@ -159,3 +145,9 @@ whole-last_by (suc k) n h =
 
 pub whole-last : (n : ℕ) → n < 10 ^ 20 → whole_text n ≡ last_digits (length (whole_text n)) n
 whole-last n h = whole-last_by 19 n h
+
+-- n has one digit more than the largest power of ten in it says
+pub whole_power : (n k : ℕ) → 10 ^ k ≤ n → n < 10 * 10 ^ k → k < 20 → (k + 1 ≡ length (whole_text n)) × (k + 1 ≤ 20)
+whole_power n k h l b =
+    let p : 10 ^ suc k ≡ 10 ^ k * 10 = pow-suc 10 k in
+    (omega (arith, whole-many 19 k n (omega arith) h, whole_length 19 k n (omega arith)), omega arith)

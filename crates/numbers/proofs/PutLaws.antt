@@ -5,8 +5,9 @@ use mathlib.Core.List.{List, [], ◌∷◌, ◌++◌, append-nil}
 use mathlib.Core.Bool.{Bool, true, false}
 use native.Mathlib.Nat.{one-le-pow}
 use native.Mathlib.Omega.{arith}
-use lib.ListN.{length, set, replicate, length-append, length-replicate}
-use lib.Seq.{append_snoc}
+use borrow.Rule.Slice.PartMut.{put_mid}
+use lib.ListN.{length, set, take, drop, replicate, length-drop, length-append, length-replicate}
+use lib.Seq.{append_snoc, drop-drop, length-take-le}
 use borrow.Author.Tests.{ne_eqb}
 use Rattle.line_bytes.specs.declared.Span.{Span}
 use Rattle.numbers.specs.Texts.{last_digits, whole_text, fraction_text, sign_text, at_right}
@@ -39,7 +40,7 @@ put_byte {f} {t} {g} {e} {i} x h l p =
           ∙ patch-front f (i - 1) t x (omega (arith, p.starts));
     }
 
--- ---- the loops' invariants: digits, and spaces
+-- ---- the loop's invariant: digits
 pub record Digits (f : List ℕ) (e count n start : ℕ) (g : List ℕ) (at rest : ℕ) : Type 0 where
   pub done : List ℕ
   pub put : PutBefore f e done g at
@@ -79,23 +80,15 @@ module _ (f : List ℕ) (e count n : ℕ) (r : Room f e (last_digits count n)) w
       let w : d.done ≡ last_digits count n = ap (λ (j : ℕ). last_digits j rest ++ d.done) (sym k) ∙ d.whole in
       rw (← i) (rw (← w) d.put)
 
-pub record Spaces (f : List ℕ) (e start : ℕ) (g : List ℕ) (at : ℕ) : Type 0 where
-  pub put : PutBefore f e (replicate (e - at) 32) g at
-  pub low : start ≤ at
-  pub same : length g ≡ length f
-
-module _ {f : List ℕ} {e start : ℕ} (inside : e ≤ length f) where
-  pub spaces-start : start ≤ e → Spaces f e start f e
-  spaces-start h = let k : e - e ≡ 0 = omega arith in record { put = rw k (put-none f e); low = h; same = refl }
-
-  pub spaces_turn : {g : List ℕ} {at : ℕ} → start < at → Spaces f e start g at → Spaces f e start (set g (at - 1) 32) (at - 1)
-  spaces_turn {g} {at} h s =
-      let k : e - (at - 1) ≡ suc (e - at) = omega (arith, s.put.starts) in
-      let p = put_byte 32 (omega arith) inside s.put in
-      record { put = rw k p; low = omega arith; same = put-length inside p }
-
-  pub spaces-end : {g : List ℕ} {at : ℕ} → at ≤ start → Spaces f e start g at → g ≡ patch f start (replicate (e - start) 32)
-  spaces-end {g} {at} h s = let i : at ≡ start = omega (arith, s.low) in rw (← i) s.put.bytes
+-- the bytes from start up to e, all set to spaces
+pub filled : (f t : List ℕ) (start e : ℕ) → start ≤ e → e ≤ length f → t ≡ replicate (length (take (e - start) (drop start f))) 32
+    → put_mid start (e - start) f t ≡ patch f start (replicate (e - start) 32)
+unfolding patch
+filled f t start e h l q =
+    let k : length (take (e - start) (drop start f)) ≡ e - start = length-take-le (e - start) (drop start f) (omega (arith, length-drop start f)) in
+    rw (q, k)
+    (ap (λ (r : List ℕ). take start f ++ (replicate (e - start) 32 ++ r))
+    (drop-drop (e - start) start f ∙ ap (λ (j : ℕ). drop (start + j) f) (sym (length-replicate {A = ℕ} (e - start) 32))))
 
 -- ---- a text in two parts, the right one put first
 module _ {f T : List ℕ} {e : ℕ} (s t : List ℕ) (q : T ≡ s ++ t) (r : Room f e T) where
@@ -133,9 +126,6 @@ point-some d n q f e = rw (ne_eqb d 0 f, e)
 
 pub place-some : (d q : ℕ) → q ≡ 10 ^ (6 - d) → 0 < q
 place-some d q e = rw e (one-le-pow (6 - d) 10 (omega arith))
-
-pub place-last : (d : ℕ) → 6 ≤ d → 1 ≡ 10 ^ (6 - d)
-place-last d h = let z : 6 - d ≡ 0 = omega arith in rw z
 
 pub whole_by-count : (n k : ℕ) → n < 10 ^ 20 → k ≡ length (whole_text n) → whole_text n ≡ last_digits k n
 whole_by-count n k h e = rw e (whole-last n h)

@@ -9,19 +9,16 @@ use line_bytes::Span;
 pub fn digit_count(n: u64) -> usize
     ensures { (result ≡ length (whole_text n)) × (result ≤ 20) }
 {
-    let mut count: usize = 1;
-    let mut rest = n;
-    while 10 <= rest {
-        count += 1;
-        rest = rest / 10;
+    match n.checked_ilog10() {
+        Some(k) => (k as usize) + 1,
+        None => 1,
     }
-    count
 }
 
 pub fn sign_length(minus: bool) -> usize
     ensures { (result ≡ length (sign_text minus)) × (result ≤ 1) }
 {
-    if minus { 1 } else { 0 }
+    minus as usize
 }
 
 // The point and the decimals, if any.
@@ -40,8 +37,5 @@ pub fn fraction_length(decimals: u64) -> usize
 pub fn has_room(bytes: usize, cell: Span, n: usize) -> bool
     ensures { result ≡ has_room bytes cell n }
 {
-    if bytes < cell.start {
-        return false;
-    }
-    (n <= cell.len) & (cell.len <= bytes - cell.start)
+    cell.start <= bytes && n <= cell.len && cell.len <= bytes - cell.start
 }

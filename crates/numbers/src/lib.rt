@@ -19,11 +19,7 @@ const LARGEST_DIGIT: u64 = 9;
 pub fn size_of(m: i64) -> u64
     ensures { result ≡ size m }
 {
-    if m < 0 {
-        ((0 - (m + 1)) as u64) + 1
-    } else {
-        m as u64
-    }
+    m.unsigned_abs()
 }
 
 // The length of the text of a number by its sign and size; 0 above 6 decimals, where it has none.

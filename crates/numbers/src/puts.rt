@@ -23,12 +23,10 @@ fn put_digits(file: &mut [u8], end: usize, count: usize, n: u64) -> usize
     ensures { PutBefore file.old end (last_digits count n) file.new result }
 {
     let start = end - count;
-    let mut at = end;
     let mut rest = n;
-    while start < at {
-        at -= 1;
+    for at in (start..end).rev() {
         file[at] = b'0' + ((rest % 10) as u8);
-        rest = rest / 10;
+        rest /= 10;
     }
     start
 }
@@ -65,7 +63,8 @@ fn put_sign(file: &mut [u8], end: usize, minus: bool) -> usize
     }
 }
 
-// The text of a number.
+// The text of a number, by the three values that the public calls take. `decimals ≤ 6` stays a `requires`: those calls take every number of decimals,
+// so a type for at most six would be made in two of them for the three functions that need it.
 pub fn put_text(file: &mut [u8], end: usize, minus: bool, size: u64, decimals: u64) -> usize
     requires decimals_bound { decimals ≤ 6 }
     requires room { Room file.old end (text_of minus size decimals) }
@@ -81,9 +80,5 @@ pub fn clear(file: &mut [u8], start: usize, end: usize)
     requires { (start ≤ end) × (end ≤ length file.old) }
     ensures { file.new ≡ patch file.old start (replicate (end - start) 32) }
 {
-    let mut i = end;
-    while start < i {
-        i -= 1;
-        file[i] = b' ';
-    }
+    file[start..end].fill(b' ');
 }

@@ -2,7 +2,9 @@
 use Prim.Native.Nat.{ℕ, ◌+◌, ◌-◌, ◌≤◌, ◌<◌}
 use mathlib.Core.Path.{◌≡◌, refl, sym, ap, subst, ◌∙◌}
 use mathlib.Core.List.{List}
-use mathlib.Core.Bool.{Bool, true, false, cond, ◌||◌, true≢false}
+use mathlib.Core.Bool.{Bool, true, false, cond, ◌||◌}
+use Rattle.std.specs.Prelude.{Option, Some, None}
+use Rattle.std.proofs.lemmas.Option.{none-some, cond_some}
 use native.Mathlib.Omega.{arith}
 use lib.ListN.{length}
 use lib.Dec.{eqb}
@@ -29,18 +31,18 @@ use Rattle.format.specs.ByPlace.{line_after, cells_in, has_cell, text_of, cell_i
 use Rattle.format.proofs.VerdictLaws.{reading_anywhere, size_anywhere}
 use Rattle.format.proofs.ByPlaceLaws.{after-fed, CellThere, cell-there, has_there, span-feed}
 use Rattle.opened.specs.declared.Part.{Part}
-use Rattle.opened.specs.Inner.Parts.{part_there, no_part, part_of}
+use Rattle.opened.specs.Inner.Parts.{part_there, part_of}
 
 -- ---- a cell looked for
 module _ (s : List ℕ) (i c : ℕ) where
-  pub part_none : (x : Part) → x ≡ no_part s i → has_cell s i c ≡ false → x ≡ part_of s i c
+  pub part_none : has_cell s i c ≡ false → ◌≡◌ {A = Option Part} None (part_of s i c)
   unfolding part_of
-  part_none x e h = rw h e
+  part_none h = rw h
 
   pub part-found : (p : Span) (e : ℕ) → p ≡ cell_span s i (c - 1) → e ≡ p.start + length (line_at s p.start) → 1 ≤ c → c ≤ length (pieces 44 (line_at s i)) → e < length s
-      → ◌≡◌ {A = Part} (record { found = true; start = p.start; len = p.len; feed = e; next = e + 1 }) (part_of s i c)
+      → ◌≡◌ {A = Option Part} (Some (record { start = p.start; len = p.len; feed = e; next = e + 1 })) (part_of s i c)
   unfolding part_of
-  part-found p e d f o m h = rw w.has (λ j. record { found = true; start = (d j).start; len = (d j).len; feed = g j; next = n j })
+  part-found p e d f o m h = rw w.has (λ j. Some (record { start = (d j).start; len = (d j).len; feed = g j; next = n j }))
     where
       g : e ≡ i + length (line_at s i)
       g = f ∙ span-feed s i c o p d m
@@ -52,44 +54,38 @@ module _ (s : List ℕ) (i c : ℕ) where
       w = cell-there s i c (subst (λ (j : ℕ). j < length s) g h) o m
 
 -- ---- what is read from it
-module _ (s : List ℕ) (i c : ℕ) (x : Part) (w : x ≡ part_of s i c) where
-  next_is : x.next ≡ line_after s i
-  unfolding part_of
-  next_is = ap (λ (p : Part). p.next) w ∙ go (has_cell s i c)
-    where
-      go : (b : Bool) → (cond b (part_there s i c) (no_part s i)).next ≡ line_after s i
-      go true = refl
-      go false = refl
-
-  module _ (h : x.found ≡ false) where
+module _ (s : List ℕ) (i c : ℕ) where
+  module _ (w : ◌≡◌ {A = Option Part} None (part_of s i c)) where
     lacks : has_cell s i c ≡ false
     unfolding part_of
-    lacks = go (has_cell s i c) (sym h ∙ ap (λ (p : Part). p.found) w)
+    lacks = go (has_cell s i c) w
       where
-        go : (b : Bool) → false ≡ (cond b (part_there s i c) (no_part s i)).found → b ≡ false
-        go true e = absurd (true≢false (sym e))
+        go : (b : Bool) → None ≡ cond b (Some (part_there s i c)) None → b ≡ false
+        go true e = absurd (none-some (part_there s i c) e)
         go false e = refl
 
     pub cell-none : (y : CellPlace) → y ≡ no_place 21 0 0 → y ≡ cell_in s i c
     unfolding cell_in
     cell-none y e = rw lacks e
 
-    pub decimal-none : (k : ℕ) → ◌≡◌ {A = DecimalStep} (record { reading = Refused 21 0 0; next = x.next }) (decimal_step s i c k)
-    unfolding decimal_in
-    decimal-none k = rw (lacks, next_is)
+    module _ (n : ℕ) (m : n ≡ line_after s i) where
+      pub decimal-none : (k : ℕ) → ◌≡◌ {A = DecimalStep} (record { reading = Refused 21 0 0; next = n }) (decimal_step s i c k)
+      unfolding decimal_in
+      decimal-none k = rw (lacks, m)
 
-    pub flag-none : (k : ℕ) (y : Flagged) → y ≡ no_flag 21 → ◌≡◌ {A = FlagStep} (record { flagged = y; next = x.next }) (flag_step s i c k)
-    unfolding flag_in
-    flag-none k y e = rw (lacks, next_is, e)
+      pub flag-none : (k : ℕ) (y : Flagged) → y ≡ no_flag 21 → ◌≡◌ {A = FlagStep} (record { flagged = y; next = n }) (flag_step s i c k)
+      unfolding flag_in
+      flag-none k y e = rw (lacks, m, e)
 
-  module _ (h : x.found ≡ true) where
+  module _ (x : Part) (w : Some x ≡ part_of s i c) where
     there : (has_cell s i c ≡ true) × (x ≡ part_there s i c)
     unfolding part_of
-    there = go (has_cell s i c) (sym h ∙ ap (λ (p : Part). p.found) w) w
-      where
-        go : (b : Bool) → true ≡ (cond b (part_there s i c) (no_part s i)).found → x ≡ cond b (part_there s i c) (no_part s i) → (b ≡ true) × (x ≡ part_there s i c)
-        go true e f = (refl, f)
-        go false e f = absurd (true≢false e)
+    there =
+        let m = cond_some (has_cell s i c) (part_there s i c) x (sym w) in
+        (m.0, sym m.1)
+
+    next_is : x.next ≡ line_after s i
+    next_is = ap (λ (p : Part). p.next) there.1
 
     cell : CellThere s i c
     cell = has_there s i c there.0

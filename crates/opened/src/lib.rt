@@ -4,7 +4,7 @@
 
 ghost use Rattle.std.specs.Prelude.{◌≡◌};
 ghost use Rattle.format.specs.ByPlace.{line_after, cell_in, decimal_in, no_flag, flag_in, decimal_step, flag_step};
-ghost use Rattle.opened.specs.Inner.Parts.{no_part, part_of};
+ghost use Rattle.opened.specs.Inner.Parts.{part_of};
 
 pub use columns::{column_in, flag_column, kind_in};
 use format::{CellPlace, DecimalStep, FlagStep, Flagged};
@@ -22,52 +22,49 @@ pub fn line_after(file: &[u8], at: usize) -> usize
 pub fn cell_in(file: &[u8], at: usize, column: u64) -> CellPlace
     ensures { result ≡ cell_in file.now at column }
 {
-    let p = part_in(file, at, column);
-    if p.found {
-        return CellPlace {
-            number: 0,
-            line: 0,
-            column: 0,
-            place: text::trim_span(file, p.start, p.start + p.len),
-        };
+    let Some(p) = part_in(file, at, column) else {
+        return no_place(refusals::NO_SUCH_PLACE, 0, 0);
+    };
+    CellPlace {
+        number: 0,
+        line: 0,
+        column: 0,
+        place: text::trim_span(file, p.start, p.start + p.len),
     }
-    no_place(refusals::NO_SUCH_PLACE, 0, 0)
 }
 
 // The reading of a decimal cell.
+// A kind is a byte here and in the calls below, and no enum: `decimal_in` and `flag_in` of document 01 say what any byte gives.
 pub fn decimal_in(file: &[u8], at: usize, column: u64, kind: u8) -> Reading
     ensures { result ≡ decimal_in file.now at column kind }
 {
-    let d = decimal_step(file, at, column, kind);
-    d.reading
+    decimal_step(file, at, column, kind).reading
 }
 
 // The flag in a flag cell.
 pub fn flag_in(file: &[u8], at: usize, column: u64, kind: u8) -> Flagged
     ensures { result ≡ flag_in file.now at column kind }
 {
-    let f = flag_step(file, at, column, kind);
-    f.flagged
+    flag_step(file, at, column, kind).flagged
 }
 
 // The reading of a decimal cell, and where the next line starts.
 pub fn decimal_step(file: &[u8], at: usize, column: u64, kind: u8) -> DecimalStep
     ensures { result ≡ decimal_step file.now at column kind }
 {
-    let p = part_in(file, at, column);
-    if p.found {
-        return DecimalStep {
+    match part_in(file, at, column) {
+        Some(p) => DecimalStep {
             reading: text::read_decimal(file, p.start, p.feed, b',', kind),
             next: p.next,
-        };
-    }
-    DecimalStep {
-        reading: Reading::Refused {
-            number: refusals::NO_SUCH_PLACE,
-            line: 0,
-            column: 0,
         },
-        next: p.next,
+        None => DecimalStep {
+            reading: Reading::Refused {
+                number: refusals::NO_SUCH_PLACE,
+                line: 0,
+                column: 0,
+            },
+            next: line_after(file, at),
+        },
     }
 }
 
@@ -75,27 +72,26 @@ pub fn decimal_step(file: &[u8], at: usize, column: u64, kind: u8) -> DecimalSte
 pub fn flag_step(file: &[u8], at: usize, column: u64, kind: u8) -> FlagStep
     ensures { result ≡ flag_step file.now at column kind }
 {
-    let p = part_in(file, at, column);
-    if p.found {
-        if (kind == kinds::FLAG) | (kind == kinds::CTD_FLAG) {
-            let j = text::judge(file, p.start, p.feed, b',', kind);
-            return FlagStep {
-                flagged: Flagged {
-                    number: j.number,
-                    line: 0,
-                    column: 0,
-                    flag: j.size,
-                },
-                next: p.next,
-            };
-        }
+    let Some(p) = part_in(file, at, column) else {
+        return FlagStep {
+            flagged: no_flag(refusals::NO_SUCH_PLACE),
+            next: line_after(file, at),
+        };
+    };
+    if !matches!(kind, kinds::FLAG | kinds::CTD_FLAG) {
         return FlagStep {
             flagged: no_flag(refusals::COLUMN_OF_OTHER_KIND),
             next: p.next,
         };
     }
+    let j = text::judge(file, p.start, p.feed, b',', kind);
     FlagStep {
-        flagged: no_flag(refusals::NO_SUCH_PLACE),
+        flagged: Flagged {
+            number: j.number,
+            line: 0,
+            column: 0,
+            flag: j.size,
+        },
         next: p.next,
     }
 }
@@ -111,49 +107,35 @@ fn no_flag(number: u64) -> Flagged
     }
 }
 
-// A cell of a line: it stands at start, with its spaces, and the line's line feed at `feed`; not found where the line has no line feed or no such cell. The next
-// line starts at `next`.
+// A cell of a line: it stands at start, with its spaces; the line's line feed at `feed`, and the next line starts at `next`.
 #[derive(Clone, Copy)]
 pub struct Part {
-    pub found: bool,
     pub start: usize,
     pub len: usize,
     pub feed: usize,
     pub next: usize,
 }
 
-fn no_part(file: &[u8], at: usize) -> Part
-    ensures { result ≡ no_part file.now at }
-{
-    Part {
-        found: false,
-        start: 0,
-        len: 0,
-        feed: 0,
-        next: line_after(file, at),
-    }
-}
-
-// The cell of a column, counted from 1, of the line at `at`. Every cell of a line but its first starts after the start of the file.
-fn part_in(file: &[u8], at: usize, column: u64) -> Part
+// The cell of a column, counted from 1, of the line at `at`: none where the line has no line feed or no such cell. Every cell of a line but its first starts
+// after the start of the file.
+fn part_in(file: &[u8], at: usize, column: u64) -> Option<Part>
     ensures { result ≡ part_of file.now at column }
 {
     if column < 1 {
-        return no_part(file, at);
+        return None;
     }
     let p = cell_span(file, at, (column - 1) as usize);
-    if (1 < column) & (p.start == 0) {
-        return no_part(file, at);
+    if 1 < column && p.start == 0 {
+        return None;
     }
     let feed = line_end(file, p.start);
     if file.len() <= feed {
-        return no_part(file, at);
+        return None;
     }
-    Part {
-        found: true,
+    Some(Part {
         start: p.start,
         len: p.len,
         feed,
         next: feed + 1,
-    }
+    })
 }

@@ -16,14 +16,14 @@ pub struct Order {
     pub flag: u64,
 }
 
-// A correction's answer.
+// A correction's answer: no Result, since the definitions and the theorems on corrections, Demand3 among them, are stated by this type.
 #[derive(Clone, Copy)]
 pub enum Answer {
     Applied,
     Refused { number: u64, line: u64, column: u64 },
 }
 
-// One line of a correction list, its column name by place; the number is 26 where it is malformed, else 0.
+// One line of a correction list, its column name by place; the number is 26 where it is malformed, else 0, as the definition line_read has it.
 #[derive(Clone, Copy)]
 pub struct ListLine {
     pub number: u64,

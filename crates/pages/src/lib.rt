@@ -22,10 +22,8 @@ pub fn put<'a>(room: &mut [u8], at: usize, t: &'a [u8]) -> usize
     ensures { page room.new result ≡ lay (page room.old at) t.now }
 {
     let mut end = at;
-    let mut i = 0;
-    while i < t.len() {
-        end = put_byte(room, end, t[i]);
-        i += 1;
+    for &b in t {
+        end = put_byte(room, end, b);
     }
     end
 }

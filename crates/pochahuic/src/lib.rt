@@ -15,7 +15,7 @@ use correction::{Answer, Order};
 use exchange::{CastTime, CellPlace, FileKind};
 use text::Reading;
 
-// The kind of a file as a number: of a refused one, of a bottle and of a CTD file.
+// The kind of a file as a number: of a refused one, of a bottle and of a CTD file. Numbers, here as in every answer: the C interface has them (bindings/c/pochahuic.h).
 const NO_KIND: u64 = 0;
 
 const BOTTLE: u64 = 1;
@@ -46,15 +46,14 @@ pub fn pochahuic_check(file: &[u8], out: &mut [u64; 8]) -> u64
     ensures out_after { out.new ≡ check_numbers (checked_of file.now) }
 {
     let c = exchange::check(file);
-    let k = c.kind;
-    let kind = kind_number(k);
+    let kind = kind_number(c.kind);
     *out = [
         c.number, c.line, c.column, kind, c.columns, c.rows, c.profiles, c.missing,
     ];
     c.number
 }
 
-// A refusal, or a place: number, line, column, start, length.
+// A refusal, or a place: number, line, column, start, length. By hand, as the numbers of a time: neither type is of this crate, so there can be no From.
 pub fn place_numbers(at: CellPlace) -> [u64; 5]
     ensures { result ≡ place_numbers at }
 {
@@ -142,8 +141,7 @@ pub fn pochahuic_profile(file: &[u8], k: u64, out: &mut [u64; 10]) -> u64
     ensures out_after { out.new ≡ profile_numbers (profile_of file.now k) }
 {
     let p = exchange::profile(file, k);
-    let given = p.time;
-    let time = time_numbers(given);
+    let time = time_numbers(p.time);
     *out = [
         p.number, p.line, p.column, p.first, p.rows, p.castno, p.date, time[0], time[1], time[2],
     ];
@@ -205,8 +203,7 @@ pub fn pochahuic_list_line(line: &[u8], millionths: &mut i64, out: &mut [u64; 6]
     ensures out_after { out.new ≡ line_numbers (line_read line.now) }
 {
     let l = correction::read_list_line(line);
-    let m = l.millionths;
-    *millionths = m;
+    *millionths = l.millionths;
     *out = [
         l.number,
         l.row,

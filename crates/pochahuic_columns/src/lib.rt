@@ -24,8 +24,8 @@ pub fn pochahuic_open(file: &[u8], out: &mut [u64; 11]) -> u64
 {
     let o = exchange::open_file(file);
     let c = o.checked;
-    let k = c.kind;
-    let kind = kind_number(k);
+    let kind = kind_number(c.kind);
+    // One by one, as pochahuic_check has them: an array of eleven does not take one of eight as its start.
     *out = [
         c.number,
         c.line,
@@ -69,7 +69,7 @@ pub fn pochahuic_name(file: &[u8], column: u64, out: &mut [u64; 5]) -> u64
     at.number
 }
 
-// Where its unit stands, likewise.
+// Where its unit stands, likewise: a call for C has its own name and clauses, though it differs from the one above in a call alone.
 pub fn pochahuic_unit(file: &[u8], column: u64, out: &mut [u64; 5]) -> u64
     ensures value { result ≡ (unit_place file.now column).number }
     ensures out_after { out.new ≡ place_numbers (unit_place file.now column) }
@@ -97,6 +97,7 @@ pub fn pochahuic_header(file: &[u8], k: u64, out: &mut [u64; 7]) -> u64
     h.number
 }
 
+// Number, line, column, rows. By hand: neither type is of this crate, so there can be no From.
 fn column_numbers(r: ColumnRead) -> [u64; 4]
     ensures { result ≡ column_numbers r }
 {

@@ -11,7 +11,7 @@ ghost use Rattle.pochahuic.specs.Numbers.{place_numbers};
 
 use pochahuic::place_numbers;
 
-// The kind of a column of the names line that starts at `names`.
+// The kind of a column of the names line that starts at `names`, as a number: the C interface has it so (bindings/c/pochahuic.h).
 pub fn pochahuic_kind_in(file: &[u8], names: usize, column: u64) -> u64
     ensures { result ≡ kind_in_line (line_at file.now names) column }
 {

@@ -30,7 +30,8 @@ pub fn pochahuic_walk_next(file: &[u8], cursor: &mut [u64; 10]) -> u64
     next.cell.number
 }
 
-// Number, line, column of the refusal; start and length of the cell; row and column; where it ends with its spaces; rows and columns of the file.
+// Number, line, column of the refusal; start and length of the cell; row and column; where it ends with its spaces; rows and columns of the file. By hand, as its
+// inverse: neither type is of this crate, so there can be no From.
 fn numbers_of(c: Cursor) -> [u64; 10]
     ensures { result ≡ cursor_numbers c }
 {

@@ -2,12 +2,14 @@
 use Prim.Native.Nat.{ℕ, zero, suc, ◌+◌, ◌-◌, ◌≤◌, ◌<◌}
 use mathlib.Core.Path.{◌≡◌, refl, sym, ap, subst, ◌∙◌}
 use mathlib.Core.List.{List, [], ◌∷◌, ◌++◌, map, append_assoc, append-nil}
-use mathlib.Core.Bool.{Bool, true, false, cond, not, ◌&&◌, true≢false}
+use mathlib.Core.Bool.{Bool, true, false, cond, ◌&&◌}
 use native.Mathlib.Nat.{add-zero}
 use native.Mathlib.Omega.{arith}
 use lib.ListN.{length, take, length-append}
 use lib.Dec.{eqb, ltb}
-use borrow.Author.Tests.{eq-eqb, ne_eqb, eqb-false, lt-ltb, ltb-false}
+use borrow.Author.Tests.{eq-eqb, ne_eqb, lt-ltb, ltb-false}
+use Rattle.std.specs.Prelude.{Option, Some, None, IfSome}
+use Rattle.std.proofs.lemmas.Option.{IfSome_then}
 use Rattle.verdicts.specs.declared.Keys.{Keys}
 use Rattle.line_bytes.specs.Cells.{line_at, pieces}
 use Rattle.verdicts.specs.Rows.{no_keys}
@@ -67,6 +69,22 @@ labels_after n x l ys = cond (ltb 0 n) (labels_from x l ys) (labels ys)
 abbrev pub label_next : ℕ → Key → ℕ → Key → ℕ
 label_next n x l y = l + cond (ltb 0 n && same_key x y) 0 1
 
+-- as the code counts it
+module _ (n : ℕ) (x : Key) (l : ℕ) (y : Key) (m : ℕ) where
+  pub next_first : n ≡ 0 → m ≡ l + 1 → m ≡ label_next n x l y
+  next_first h e = rw h e
+
+  module _ (b : Bool) (q : b ≡ same_key x y) where
+    pub next_other : b ≡ false → m ≡ l + 1 → m ≡ label_next n x l y
+    next_other h e = rw (sym q ∙ h) (go (ltb 0 n))
+      where
+        go : (a : Bool) → m ≡ l + cond (a && false) 0 1
+        go true = e
+        go false = e
+
+    pub next_same : b ≡ true → (n ≡ 0 → ⊥) → m ≡ l → m ≡ label_next n x l y
+    next_same h z e = rw (sym q ∙ h, lt-ltb 0 n (omega (arith, z))) (e ∙ sym (add-zero l))
+
 labels-row : (n : ℕ) (x y : Key) (l : ℕ) (ys : List Key) → (n ≡ 0 → l ≡ 0) → labels_after n x l (y ∷ ys) ≡ label_next n x l y ∷ labels_from y (label_next n x l y) ys
 unfolding labels_from labels
 labels-row n x y l ys h = go (ltb 0 n) (same_key x y) refl
@@ -97,95 +115,75 @@ rows_none : (k r : ℕ) → rows_of k r [] ≡ []
 unfolding rows_of
 rows_none k r = refl
 
-module _ (r : Run) (row : ℕ) where
-  pub noted_other : (b : Bool) → not b ≡ true → r ≡ with_noted r row b
-  noted_other true h = absurd (true≢false (sym h))
-  noted_other false h = refl
-
-  pub noted-first : (b : Bool) → not b ≡ false → r.rows ≡ 0 → ◌≡◌ {A = Run} (record { first = row; rows = 1 }) (with_noted r row b)
-  noted-first false h z = absurd (true≢false h)
-  noted-first true h z = rw (eq-eqb r.rows 0 z, z)
-
-  pub noted-later : (b : Bool) → not b ≡ false → (r.rows ≡ 0 → ⊥) → ◌≡◌ {A = Run} (record { first = r.first; rows = r.rows + 1 }) (with_noted r row b)
-  noted-later false h z = absurd (true≢false h)
-  noted-later true h z = rw (ne_eqb r.rows 0 z)
-
 noted_past : (b : Bool) (xs ys : List ℕ) (r : ℕ) → xs ++ cond b (r ∷ ys) ys ≡ cond b (xs ++ r ∷ []) xs ++ ys
 noted_past true xs ys r = sym (append_assoc xs (r ∷ []) ys)
 noted_past false xs ys r = refl
 
-noted-run : (b : Bool) (xs : List ℕ) (r : Run) (row : ℕ) → RunOf xs r → RunOf (cond b (xs ++ row ∷ []) xs) (with_noted r row b)
+noted-run : (b : Bool) (xs : List ℕ) (r : Option Run) (row : ℕ) → RunOf xs r → RunOf (cond b (xs ++ row ∷ []) xs) (cond b (Some (with_noted r row)) r)
 noted-run false xs r row h = h
-noted-run true [] r row h = record { many = omega (arith, h.many); first = λ z. rw (eq-eqb r.rows 0 h.many) }
-noted-run true (x ∷ xs) r row h =
-    let z : r.rows ≡ 0 → ⊥ = λ y. omega (arith, h.many) in
-    record { many = omega (arith, h.many, length-append xs (row ∷ [])); first = λ y. rw (ne_eqb r.rows 0 z) (h.first z) }
+noted-run true xs None row h = rw h (record { some = omega arith; many = refl; first = refl })
+noted-run true [] (Some r) row h = absurd (omega (arith, h.some, h.many))
+noted-run true (x ∷ xs) (Some r) row h = record { some = omega arith; many = omega (arith, h.many, length-append xs (row ∷ [])); first = h.first }
 
-noted-few : (b : Bool) (r : Run) (row : ℕ) → r.rows ≤ row → (with_noted r (row + 1) b).rows ≤ row + 1
-noted-few true r row h = omega arith
-noted-few false r row h = omega arith
+-- a run among the rows passed so far
+abbrev pub Within : ℕ → Option Run → Type 0
+Within row r = IfSome r (λ x. (x.rows ≤ row) × (1 ≤ x.first) × (x.first ≤ row))
 
-noted-low : (b : Bool) (r : Run) (row : ℕ) → ((r.rows ≡ 0 → ⊥) → 1 ≤ r.first) → ((with_noted r (row + 1) b).rows ≡ 0 → ⊥) → 1 ≤ (with_noted r (row + 1) b).first
-noted-low false r row h z = h z
-noted-low true r row h z = go (eqb r.rows 0) refl
-  where
-    go : (c : Bool) → eqb r.rows 0 ≡ c → 1 ≤ cond c (row + 1) r.first
-    go true e = omega arith
-    go false e = h (eqb-false r.rows 0 e)
+noted-within : (b : Bool) (r : Option Run) (row : ℕ) → Within row r → Within (row + 1) (cond b (Some (with_noted r (row + 1))) r)
+noted-within true None row h = (omega arith, omega arith, omega arith)
+noted-within true (Some r) row h = (omega (arith, h.0), h.1, omega (arith, h.2))
+noted-within false None row h = h
+noted-within false (Some r) row h = (omega (arith, h.0), h.1, omega (arith, h.2))
 
-noted-high : (b : Bool) (r : Run) (row : ℕ) → r.first ≤ row → (with_noted r (row + 1) b).first ≤ row + 1
-noted-high false r row h = omega arith
-noted-high true r row h = go (eqb r.rows 0)
-  where
-    go : (c : Bool) → cond c (row + 1) r.first ≤ row + 1
-    go true = omega arith
-    go false = omega arith
+pub noted-fits : (r : Option Run) (row : ℕ) → Within row r → IfSome r (λ x. x.rows < row + 1)
+noted-fits r row h = IfSome_then r h (λ x y. omega (arith, y.0))
+
+-- as the code notes a row of profile k only
+pub noted_by : (l k : ℕ) (r x : Option Run) (row : ℕ) → l ≡ k → x ≡ Some (with_noted r row) → x ≡ cond (eqb l k) (Some (with_noted r row)) r
+noted_by l k r x row h e = rw (eq-eqb l k h) e
+
+pub passed_by : (l k : ℕ) (r x : Option Run) (row : ℕ) → (l ≡ k → ⊥) → x ≡ r → x ≡ cond (eqb l k) (Some (with_noted r row)) r
+passed_by l k r x row h e = rw (ne_eqb l k h) e
 
 -- ---- so many rows are passed
-pub record Walked (s ks : List ℕ) (i n k at row label : ℕ) (last : Keys) (run : Run) : Type 0 where
+pub record Walked (s ks : List ℕ) (i n k at row label : ℕ) (last : Keys) (run : Option Run) : Type 0 where
   pub lines : RowLines s ks at (n - row)
   pub inside : row ≤ n
   pub fresh : row ≡ 0 → label ≡ 0
   pub few : label ≤ row
-  pub counted : run.rows ≤ row
-  pub low : (run.rows ≡ 0 → ⊥) → 1 ≤ run.first
-  pub high : run.first ≤ row
+  pub within : Within row run
   pub past : List ℕ
   pub noted : RunOf past run
   pub whole : rows_of k 1 (labels (map (key_of ks) (rows_from s i n))) ≡ past ++ rows_of k (row + 1) (labels_after row (key_at s last) label (map (key_of ks) (rows_from s at (n - row))))
 
-pub walk_none : (s ks : List ℕ) (i n k : ℕ) → RowLines s ks i n → Walked s ks i n k i 0 0 no_keys (record { first = 0; rows = 0 })
+pub walk_none : (s ks : List ℕ) (i n k : ℕ) → RowLines s ks i n → Walked s ks i n k i 0 0 no_keys None
 walk_none s ks i n k h = record {
   lines = subst (RowLines s ks i) (sym e) h;
   inside = omega arith;
   fresh = λ z. refl;
   few = omega arith;
-  counted = omega arith;
-  low = λ z. absurd (z refl);
-  high = omega arith;
+  within = tt;
   past = [];
-  noted = record { many = refl; first = λ z. refl };
+  noted = refl;
   whole = ap (λ (m : ℕ). rows_of k 1 (labels (map (key_of ks) (rows_from s i m)))) (sym e);
 }
   where
     e : n - 0 ≡ n
     e = omega arith
 
-module _ {s ks : List ℕ} {i n k at row label : ℕ} {last : Keys} {run : Run} (w : Walked s ks i n k at row label last run) where
+module _ {s ks : List ℕ} {i n k at row label : ℕ} {last : Keys} {run : Option Run} (w : Walked s ks i n k at row label last run) where
   module _ (h : row < n) where
     pub walk_first : RowFirst s ks at (n - row)
     walk_first = rows_apart w.lines (omega arith)
 
-    pub walk-row : (keys : Keys) (next : ℕ) (x : Run) → key_at s keys ≡ key_of ks (line_cells s at) → next ≡ label_next row (key_at s last) label (key_at s keys)
-        → x ≡ with_noted run (row + 1) (eqb next k) → Walked s ks i n k (at + length (line_at s at) + 1) (row + 1) next keys x
+    pub walk-row : (keys : Keys) (next : ℕ) (x : Option Run) → key_at s keys ≡ key_of ks (line_cells s at) → next ≡ label_next row (key_at s last) label (key_at s keys)
+        → x ≡ cond (eqb next k) (Some (with_noted run (row + 1))) run → Walked s ks i n k (at + length (line_at s at) + 1) (row + 1) next keys x
     walk-row keys next x ek en ex = record {
       lines = subst (RowLines s ks (at + length (line_at s at) + 1)) less walk_first.later;
       inside = omega arith;
       fresh = λ z. absurd (omega arith);
       few = omega (arith, en, w.few, one_more (ltb 0 row && same_key (key_at s last) (key_at s keys)));
-      counted = rw ex (noted-few (eqb next k) run row w.counted);
-      low = rw ex (noted-low (eqb next k) run row w.low);
-      high = rw ex (noted-high (eqb next k) run row w.high);
+      within = rw ex (noted-within (eqb next k) run row w.within);
       past = cond (eqb next k) (w.past ++ (row + 1) ∷ []) w.past;
       noted = rw ex (noted-run (eqb next k) w.past run (row + 1) w.noted);
       whole = w.whole ∙ ap (λ (ls : List ℕ). w.past ++ rows_of k (row + 1) ls) labels_are ∙ ap (λ (rs : List ℕ). w.past ++ rs) (rows_on k (row + 1) next (labels_after (row + 1) (key_at s keys) next ys)) ∙ noted_past (eqb next k) w.past rest (row + 1);
@@ -216,8 +214,7 @@ module _ {s ks : List ℕ} {i n k at row label : ℕ} {last : Keys} {run : Run} 
   pub walk_end : n ≤ row → RunRead s ks i n k run
   walk_end h = record {
     run = subst (λ (xs : List ℕ). RunOf xs run) (sym (w.whole ∙ ap (λ (ls : List ℕ). w.past ++ rows_of k (row + 1) ls) none_left ∙ ap (λ (xs : List ℕ). w.past ++ xs) (rows_none k (row + 1)) ∙ append-nil w.past)) w.noted;
-    low = w.low;
-    high = omega (arith, w.high, w.inside);
+    within = IfSome_then run w.within (λ x y. (y.1, omega (arith, y.2, w.inside)));
   }
     where
       left : n - row ≡ 0

@@ -1,11 +1,12 @@
 -- A profile found in an opened file: its rows, and where its station values stand; then the calls.
-use Prim.Native.Nat.{ℕ, zero, suc, ◌+◌, ◌-◌, ◌≤◌, ◌<◌}
+use Prim.Native.Nat.{ℕ, suc, ◌+◌, ◌-◌, ◌≤◌, ◌<◌}
 use mathlib.Core.Path.{◌≡◌, refl, sym, ap, subst, ◌∙◌}
 use mathlib.Core.List.{List, [], ◌∷◌, map}
-use mathlib.Core.Bool.{Bool, true, false, cond, not}
+use mathlib.Core.Bool.{cond}
 use native.Mathlib.Omega.{arith}
-use lib.ListN.{length, get_or, take, drop, length-take, length-map}
+use lib.ListN.{length, get_or, take, drop, length-map}
 use lib.Dec.{ltb}
+use Rattle.std.specs.Prelude.{Option, Some, None, Result, Ok, Err, IsOk}
 use borrow.Author.Tests.{ne_eqb}
 use Rattle.line_bytes.specs.declared.Span.{Span}
 use Rattle.line_bytes.specs.Bytes.{bytes}
@@ -14,6 +15,10 @@ use Rattle.line_bytes.specs.Spaces.{trim_span}
 use Rattle.verdicts.specs.Kinds.{kind_of}
 use Rattle.line_bytes.proofs.SpaceLaws.{span_fits}
 use Rattle.format.specs.declared.FileKind.{FileKind}
+use Rattle.format.specs.declared.FileKind.TheVariants.{Bottle}
+use Rattle.format.specs.declared.BrokenRule.{BrokenRule}
+use Rattle.format.specs.declared.Refusal.{Refusal}
+use Rattle.std.specs.Option.{ok_or}
 use Rattle.format.specs.declared.Opened.{Opened}
 use Rattle.format.specs.declared.CastTime.{CastTime}
 use Rattle.format.specs.declared.ProfileRecord.{ProfileRecord}
@@ -28,27 +33,19 @@ use Rattle.format.specs.Places.{Table, accepted, outcome_of}
 use Rattle.format.specs.Grid.{starts, span_in}
 use Rattle.format.specs.Profiles.{Key, key_of, labels, rows_of}
 use Rattle.format.specs.Answers.{rows_in, kind_by, row_cells}
-use Rattle.format.specs.Records.{Value, given, absent, column_value, value_by, station_value, labels_by, profile_rows, number_in, cast_time, no_profile, record_of, profile_by, profile_of, Stationed, stands, refused_by, stationed_at, stationed_in, stationed_by, stationed_of, station_place, station_refusal, no_place, station_answer}
+use Rattle.format.specs.Records.{Value, given, absent, column_value, value_by, station_value, labels_by, profile_rows, number_in, cast_time, record_of, profile_by, profile_of, Stationed, stands, refused_by, stationed_at, stationed_in, stationed_by, stationed_of, station_place, station_refusal, no_place, station_answer}
 use Rattle.format.specs.Opened.{opened_of}
-use Rattle.format.specs.Inner.Faults.{names_line_fault, as_fault}
+use Rattle.format.specs.Inner.Faults.{names_line_fault}
 use Rattle.format.specs.Inner.Grid.{line_start}
-use Rattle.format.specs.Inner.Sorts.{sort_for}
 use Rattle.format.specs.Inner.Rows.{line_cells, rows_from}
 use Rattle.columns.specs.Inner.Columns.{columns_for, ColumnsRead}
-use Rattle.profiles.specs.Inner.Profiles.{RowLines, RunOf, RunRead}
-use Rattle.profiles.specs.Inner.Values.{ValueRead, HeadersStand, HeaderFound, value_in, is_bottle, RunFound, ValuesIn, ProfileFound, ProfileRead}
-use Rattle.format.proofs.AcceptLaws.{RowKept, rows-kept, accepted-table}
-use Rattle.format.proofs.FaultLaws.{breaks-clean}
+use Rattle.profiles.specs.Inner.Profiles.{RowLines, RunIs, RunOf, RunRead}
+use Rattle.profiles.specs.Inner.Values.{ValueStands, ValueRead, HeadersStand, HeaderFound, value_in, RunFound, ValuesIn, ProfileFound, ProfileRead}
+use Rattle.format.proofs.AcceptLaws.{RowKept, rows-kept, rows-some, accepted-table}
 use Rattle.format.proofs.GridLaws.{RowAt}
 use Rattle.format.proofs.OpenedLaws.{OpenedTable, opened-refused, opened-table, rows-first, row-found}
-use Rattle.columns.proofs.ColumnLaws.{columns-read}
+use Rattle.columns.proofs.ColumnLaws.{columns-kept, columns-read}
 use Rattle.profiles.proofs.ProfileLaws.{rows-lines, rows-many}
-use Rattle.profiles.proofs.ValueLaws.{not_so, so}
-
--- a number and a column that are no fault
-clean-number : (n c : ℕ) → as_fault n c ≡ clean → n ≡ 0
-clean-number zero c e = refl
-clean-number (suc n) c e = absurd (breaks-clean (suc n) c e)
 
 -- ---- the rows of a profile
 -- of a CTD file: all, or none
@@ -57,23 +54,24 @@ unfolding rows_of
 ones-many r [] = refl
 ones-many r (y ∷ ys) = ap suc (ones-many (r + 1) ys)
 
-ones-run : (ys : List Key) → RunOf (rows_of 1 1 (map (λ (y : Key). 1) ys)) (record { first = 1; rows = length ys })
+ones-run : (ys : List Key) → 0 < length ys → RunIs (rows_of 1 1 (map (λ (y : Key). 1) ys)) (record { first = 1; rows = length ys })
 unfolding rows_of
-ones-run ys = record { many = sym (ones-many 1 ys); first = λ z. go ys z }
-  where
-    go : (ys : List Key) → (length ys ≡ 0 → ⊥) → ◌≡◌ {A = ℕ} 1 (get_or (rows_of 1 1 (map (λ (y : Key). 1) ys)) 0 0)
-    go [] z = absurd (z refl)
-    go (y ∷ ys) z = refl
+ones-run [] h = absurd (omega arith)
+ones-run (y ∷ ys) h = record { some = h; many = sym (ones-many 1 (y ∷ ys)); first = refl }
 
 others-none : (k r : ℕ) (ys : List Key) → (k ≡ 1 → ⊥) → rows_of k r (map (λ (y : Key). 1) ys) ≡ []
 unfolding rows_of
 others-none k r [] h = refl
 others-none k r (y ∷ ys) h = rw (ne_eqb 1 k (λ e. h (sym e))) (others-none k (r + 1) ys h)
 
--- whether the code takes it for a bottle file
-sort_by : (k : FileKind) (o : Sort) → k ≡ kind_by o → o ≡ sort_for (is_bottle k)
-sort_by k bottle e = rw e
-sort_by k ctd e = rw e
+-- the sort of a file's table by the file's kind
+sort-bottle : (q : Sort) → Bottle ≡ kind_by q → q ≡ bottle
+sort-bottle bottle e = refl
+sort-bottle ctd e = let z : ◌≡◌ {A = ℕ} 0 1 = cc in absurd (omega arith)
+
+sort-ctd : (k : FileKind) (q : Sort) → k ≡ kind_by q → (k ≡ Bottle → ⊥) → q ≡ ctd
+sort-ctd k bottle e h = absurd (h e)
+sort-ctd k ctd e h = refl
 
 module _ {s : List ℕ} {o : Opened} (w : OpenedTable s o) where
   abbrev table : Table
@@ -81,9 +79,6 @@ module _ {s : List ℕ} {o : Opened} (w : OpenedTable s o) where
 
   abbrev rows : ℕ
   rows = o.checked.rows
-
-  pub opened-sort : (b : Bool) → b ≡ is_bottle o.checked.kind → table.sort ≡ sort_for b
-  opened-sort b e = sort_by o.checked.kind table.sort w.kind ∙ ap sort_for (sym e)
 
   rows_stand : RowLines s (kinds_of table.names) o.first rows
   rows_stand = rows-lines rows s table o.first (λ r h. subst (λ (ps : List (List ℕ)). RowKept table ps r) (sym w.first.lines) (rows-kept s table rows w.is r h))
@@ -100,49 +95,45 @@ module _ {s : List ℕ} {o : Opened} (w : OpenedTable s o) where
 
   module _ (k : ℕ) where
     -- for the table of the file, whatever it is called
-    for-table : (t : Table) (r : Run) → outcome_of s ≡ accepted t rows → RunOf (profile_rows table rows s k) r → RunOf (profile_rows t rows s k) r
+    for-table : (t : Table) (r : Option Run) → outcome_of s ≡ accepted t rows → RunOf (profile_rows table rows s k) r → RunOf (profile_rows t rows s k) r
     for-table t r e h = subst (λ (u : Table). RunOf (profile_rows u rows s k) r) (accepted-table (sym w.is ∙ e)) h
 
     rows_by : (q : Sort) → table.sort ≡ q → profile_rows table rows s k ≡ rows_of k 1 (labels_by q keys)
     unfolding profile_rows keys
     rows_by q e = ap (λ (x : Sort). rows_of k 1 (labels_by x (map (key_of (kinds_of table.names)) (rows_in table rows s)))) e
 
-  module _ (b : Bool) (eb : b ≡ is_bottle o.checked.kind) where
-    -- the kinds of a bottle file's columns
-    module _ (h : b ≡ true) (c : Columns) (ec : c ≡ columns_for bottle (line_at s o.names)) where
-      is-bottle : table.sort ≡ bottle
-      is-bottle = opened-sort b eb ∙ ap sort_for h
+  -- the kinds of a bottle file's columns
+  module _ (h : o.checked.kind ≡ Bottle) where
+    is-bottle : table.sort ≡ bottle
+    is-bottle = sort-bottle table.sort (sym h ∙ w.kind)
 
+    pub columns-stand : (r : Result Columns BrokenRule) → r ≡ columns_for bottle (line_at s o.names) → IsOk r
+    columns-stand r e = rw (e ∙ columns-kept bottle (line_at s o.names) (subst (λ (q : Sort). names_line_fault q (line_at s o.names) ≡ clean) is-bottle w.named.rules)) refl
+
+    module _ (c : Columns) (ec : columns_for bottle (line_at s o.names) ≡ Ok c) where
       columns : ColumnsRead bottle (line_at s o.names) c
       columns = columns-read bottle (line_at s o.names) c ec
 
-      good : c.number ≡ 0
-      good = clean-number c.number c.column (columns.fault ∙ subst (λ (q : Sort). names_line_fault q (line_at s o.names) ≡ clean) is-bottle w.named.rules)
-
       kinds_are : take c.count c.kinds ≡ kinds_of table.names
-      kinds_are = columns.kinds good ∙ ap kinds_of (sym w.named.names_are)
+      kinds_are = columns.kinds ∙ ap kinds_of (sym w.named.names_are)
 
       kinds-many : length (take c.count c.kinds) ≡ c.count
-      kinds-many = ap length (columns.kinds good) ∙ length-map (names_of (line_at s o.names)) kind_of_name ∙ sym (columns.many good)
+      kinds-many = ap length columns.kinds ∙ length-map (names_of (line_at s o.names)) kind_of_name ∙ sym columns.many
 
-      pub kinds-room : c.count ≤ length c.kinds
-      kinds-room = omega (arith, kinds-many, length-take c.count c.kinds)
-
-      pub kinds_taken : c.count ≡ length (take c.count c.kinds)
-      kinds_taken = sym kinds-many
+      pub kinds-room : c.count ≤ 256
+      kinds-room = columns.few
 
       pub kinds-some : 0 < length (take c.count c.kinds)
-      kinds-some = omega (arith, kinds-many, columns.many good)
+      kinds-some = omega (arith, kinds-many, columns.many)
 
       pub bottle-rows : RowLines s (take c.count c.kinds) o.first rows
       bottle-rows = subst (λ (ks : List ℕ). RowLines s ks o.first rows) (sym kinds_are) rows_stand
 
-      pub bottle-run : (k : ℕ) (r : Run) → RunRead s (take c.count c.kinds) o.first rows k r → RunFound s rows k r
+      pub bottle-run : (k : ℕ) (r : Option Run) → RunRead s (take c.count c.kinds) o.first rows k r → RunFound s rows k r
       unfolding keys
       bottle-run k r x = record {
         run = λ t e. for-table k t r e (subst (λ (xs : List ℕ). RunOf xs r) (same ∙ sym (rows_by k bottle is-bottle)) x.run);
-        low = x.low;
-        high = λ y. x.high;
+        within = x.within;
       }
         where
           same : rows_of k 1 (labels (map (key_of (take c.count c.kinds)) (rows_from s o.first rows))) ≡ rows_of k 1 (labels (map (key_of (kinds_of table.names)) (rows_in table rows s)))
@@ -150,53 +141,40 @@ module _ {s : List ℕ} {o : Opened} (w : OpenedTable s o) where
               ap (λ (ks : List ℕ). rows_of k 1 (labels (map (key_of ks) (rows_from s o.first rows)))) kinds_are
               ∙ ap (λ (rs : List (List (List ℕ))). rows_of k 1 (labels (map (key_of (kinds_of table.names)) rs))) rows_are
 
-    module _ (h : b ≡ false) (k : ℕ) where
-      ctd-rows : profile_rows table rows s k ≡ rows_of k 1 (map (λ (y : Key). 1) keys)
-      ctd-rows = rows_by k ctd (opened-sort b eb ∙ ap sort_for h)
+  module _ (h : o.checked.kind ≡ Bottle → ⊥) (k : ℕ) where
+    ctd-rows : profile_rows table rows s k ≡ rows_of k 1 (map (λ (y : Key). 1) keys)
+    ctd-rows = rows_by k ctd (sort-ctd o.checked.kind table.sort w.kind h)
 
-      pub ctd-run : k ≡ 1 → RunFound s rows k (record { first = 1; rows = rows })
-      ctd-run e = record {
-        run = λ t q. for-table k t _ q (subst (λ (xs : List ℕ). RunOf xs (record { first = 1; rows = rows })) (sym (ctd-rows ∙ ap (λ (j : ℕ). rows_of j 1 (map (λ (y : Key). 1) keys)) e))
-            (subst (λ (n : ℕ). RunOf (rows_of 1 1 (map (λ (y : Key). 1) keys)) (record { first = 1; rows = n })) keys-many (ones-run keys)));
-        low = λ y. omega arith;
-        high = λ y. omega arith;
-      }
+    some-rows : 1 ≤ rows
+    some-rows = rows-some s table rows w.is
 
-      pub ctd-none : (k ≡ 1 → ⊥) → RunFound s rows k (record { first = 0; rows = 0 })
-      ctd-none e = record {
-        run = λ t q. for-table k t _ q (subst (λ (xs : List ℕ). RunOf xs (record { first = 0; rows = 0 })) (sym (ctd-rows ∙ others-none k 1 keys e)) (record { many = refl; first = λ y. refl }));
-        low = λ y. absurd (y refl);
-        high = λ y. absurd (y refl);
-      }
+    pub ctd-run : k ≡ 1 → RunFound s rows k (Some (record { first = 1; rows = rows }))
+    ctd-run e = record {
+      run = λ t q. for-table k t (Some (record { first = 1; rows = rows })) q
+          (subst (λ (xs : List ℕ). RunIs xs (record { first = 1; rows = rows })) (sym (ctd-rows ∙ ap (λ (j : ℕ). rows_of j 1 (map (λ (y : Key). 1) keys)) e))
+          (subst (λ (n : ℕ). RunIs (rows_of 1 1 (map (λ (y : Key). 1) keys)) (record { first = 1; rows = n })) keys-many (ones-run keys (omega (arith, keys-many, some-rows)))));
+      within = (omega arith, some-rows);
+    }
+
+    pub ctd-none : (k ≡ 1 → ⊥) → RunFound s rows k None
+    ctd-none e = record { run = λ t q. for-table k t None q (ctd-rows ∙ others-none k 1 keys e); within = tt }
 
 -- ---- the profile
-run_none : (xs : List ℕ) (r : Run) → RunOf xs r → r.rows ≡ 0 → xs ≡ []
-run_none [] r h e = refl
-run_none (x ∷ xs) r h e = absurd (omega (arith, h.many))
-
-run-some : (xs : List ℕ) (r : Run) → RunOf xs r → (r.rows ≡ 0 → ⊥) → xs ≡ r.first ∷ drop 1 xs
-run-some [] r h e = absurd (e h.many)
-run-some (x ∷ xs) r h e = ap (λ (y : ℕ). y ∷ xs) (sym (h.first e))
+run-some : (xs : List ℕ) (r : Run) → RunIs xs r → xs ≡ r.first ∷ drop 1 xs
+run-some [] r h = absurd (omega (arith, h.some, h.many))
+run-some (x ∷ xs) r h = ap (λ (y : ℕ). y ∷ xs) (sym h.first)
 
 module _ (s : List ℕ) (k : ℕ) (o : Opened) (q : o ≡ opened_of s) where
-  pub profile-refused : (p : ProfileAt) → (o.checked.number ≡ 0 → ⊥) → (p.number ≡ o.checked.number) × (p.line ≡ o.checked.line) × (p.column ≡ o.checked.column) → ProfileRead s k p
+  pub profile-refused : (o.checked.number ≡ 0 → ⊥) → ProfileRead s k (Err (record { number = o.checked.number; line = o.checked.line; column = o.checked.column }))
   unfolding profile_of stationed_of
-  profile-refused p z e = record {
-    stop = λ y. rw (e.0, e.1, e.2) (ap (profile_by s k) (opened-refused s o q z));
-    stopped = λ y name. rw (e.0, e.1, e.2) (ap (stationed_by s k name) (opened-refused s o q z));
-    on = λ y. absurd (z (sym e.0 ∙ y));
-  }
+  profile-refused z = (ap (profile_by s k) (opened-refused s o q z), λ name. ap (stationed_by s k name) (opened-refused s o q z))
 
-  module _ (z : o.checked.number ≡ 0) (r : Run) (f : RunFound s o.checked.rows k r) where
+  module _ (z : o.checked.number ≡ 0) where
     w : OpenedTable s o
     w = opened-table s o q z
 
     found : List ℕ
     found = profile_rows w.table o.checked.rows s k
-
-    run_is : RunOf found r
-    unfolding found
-    run_is = f.run w.table w.is
 
     profile_by_lem : (xs : List ℕ) → found ≡ xs → profile_of s k ≡ record_of w.table s xs
     unfolding profile_of found
@@ -206,42 +184,49 @@ module _ (s : List ℕ) (k : ℕ) (o : Opened) (q : o ≡ opened_of s) where
     unfolding stationed_of found
     station_by xs name e = ap (stationed_by s k name) w.is ∙ ap (stationed_in w.table s name) e
 
-    pub profile-none : (p : ProfileAt) → r.rows ≡ 0 → (p.number ≡ 21) × (p.line ≡ 0) × (p.column ≡ 0) → ProfileRead s k p
-    profile-none p d e = record {
-      stop = λ y. rw (e.0, e.1, e.2) (profile_by_lem [] (run_none found r run_is d));
-      stopped = λ y name. rw (e.0, e.1, e.2) (station_by [] name (run_none found r run_is d));
-      on = λ y. absurd (omega (arith, e.0, y));
-    }
+    pub profile-none : RunFound s o.checked.rows k None → ProfileRead s k (Err (record { number = 21; line = 0; column = 0 }))
+    unfolding found
+    profile-none f = (profile_by_lem [] (f.run w.table w.is), λ name. station_by [] name (f.run w.table w.is))
 
-    pub profile-found : (r.rows ≡ 0 → ⊥) → (b : Bool) → b ≡ is_bottle o.checked.kind → (at : ℕ) → at ≡ line_start s o.first (r.first - 1)
-        → ProfileRead s k (record { number = 0; line = 0; column = 0; bottle = b; headers = o.headers; names = o.names; at = at; first = r.first; rows = r.rows })
-    profile-found d b eb at e = record { stop = λ y. absurd (y refl); stopped = λ y. absurd (y refl); on = λ y. (w.table, it) }
-      where
-        list : found ≡ r.first ∷ drop 1 found
-        list = run-some found r run_is d
+    -- as the code turns a run that is not there into the refusal
+    pub profile-missed : (r : Option Run) (e : Refusal) → RunFound s o.checked.rows k r → Err e ≡ ok_or r (record { number = 21; line = 0; column = 0 }) → ProfileRead s k (Err e)
+    profile-missed None e f h = let z : e ≡ record { number = 21; line = 0; column = 0 } = cc in subst (λ (x : Refusal). ProfileRead s k (Err x)) (sym z) (profile-none f)
+    profile-missed (Some r) e f h = let z : ◌≡◌ {A = ℕ} 0 1 = cc in absurd (omega arith)
 
-        row : RowAt s w.table (r.first - 1) at
-        row = subst (RowAt s w.table (r.first - 1)) (sym e) (row-found w (r.first - 1) (omega (arith, f.low d, f.high d)))
+    module _ (r : Run) (f : RunFound s o.checked.rows k (Some r)) where
+      run_is : RunIs found r
+      unfolding found
+      run_is = f.run w.table w.is
 
-        it : ProfileFound s k w.table (record { number = 0; line = 0; column = 0; bottle = b; headers = o.headers; names = o.names; at = at; first = r.first; rows = r.rows })
-        it = record {
-          others = drop 1 found;
-          many = run_is.many ∙ ap length list;
-          record_is = profile_by_lem (r.first ∷ drop 1 found) list;
-          station = λ name. station_by (r.first ∷ drop 1 found) name list;
-          values = record {
-            sort = opened-sort w b eb;
-            named = w.named.names_are;
-            columns = record { row = row.feed; many = row.many ∙ ap length w.named.names_are };
-            cells = row.cells;
-            place = row.place;
-            headers = w.headers;
-          };
-        }
+      list : found ≡ r.first ∷ drop 1 found
+      list = run-some found r run_is
+
+      pub profile-found : (at : ℕ) → at ≡ line_start s o.first (r.first - 1)
+          → ProfileRead s k (Ok (record { kind = o.checked.kind; headers = o.headers; names = o.names; at = at; first = r.first; rows = r.rows }))
+      profile-found at e = (w.table, it)
+        where
+          row : RowAt s w.table (r.first - 1) at
+          row = subst (RowAt s w.table (r.first - 1)) (sym e) (row-found w (r.first - 1) (omega (arith, f.within.0, f.within.1)))
+
+          it : ProfileFound s k w.table (record { kind = o.checked.kind; headers = o.headers; names = o.names; at = at; first = r.first; rows = r.rows })
+          it = record {
+            others = drop 1 found;
+            many = run_is.many ∙ ap length list;
+            record_is = profile_by_lem (r.first ∷ drop 1 found) list;
+            station = λ name. station_by (r.first ∷ drop 1 found) name list;
+            values = record {
+              sort = w.kind;
+              named = w.named.names_are;
+              columns = record { row = row.feed; many = row.many ∙ ap length w.named.names_are };
+              cells = row.cells;
+              place = row.place;
+              headers = w.headers;
+            };
+          }
 
 -- ---- the value of a name in it
 module _ (s : List ℕ) (t : Table) (p : ProfileAt) (w : ValuesIn s t p) where
-  module _ (name : List ℕ) (h : p.bottle ≡ true) where
+  module _ (name : List ℕ) (h : p.kind ≡ Bottle) where
     value_at_lem : List (List ℕ) → List (List ℕ) → ℕ → Value
     value_at_lem ns ts i = cond (ltb (place_in name ns) (length ns)) (given (get_or ts (place_in name ns) []) (span_in i ts (place_in name ns))) absent
 
@@ -257,47 +242,36 @@ module _ (s : List ℕ) (t : Table) (p : ProfileAt) (w : ValuesIn s t p) where
         ∙ ap (value_at_lem t.names c) w.place
         ∙ ap (λ (m : ℕ). cond (ltb k (length t.names)) (given (get_or c m []) (span_in i c m)) absent) e
 
-    pub station-column : (r : ValueAt) → ValueRead s (value_in s p.names p.at name) r → ValueRead s (station_value t s p.first name) r
+    pub station-column : (r : Option ValueAt) → ValueRead s (value_in s p.names p.at name) r → ValueRead s (station_value t s p.first name) r
     unfolding station_value
-    station-column r x = subst (λ (o : Sort). ValueRead s (value_by o t s p.first name) r) (sym (w.sort ∙ ap sort_for h)) (rw column_is at x)
+    station-column r x = subst (λ (o : Sort). ValueRead s (value_by o t s p.first name) r) (sym (sort-bottle t.sort (sym h ∙ w.sort))) (rw column_is at x)
 
   pub station-headers : HeadersStand s p.headers p.names
   station-headers = (_, _, w.headers)
 
-  pub station-header : p.bottle ≡ false → (name : List ℕ) (r : ValueAt) → HeaderFound s p.headers p.names name r → ValueRead s (station_value t s p.first name) r
+  pub station-header : (p.kind ≡ Bottle → ⊥) → (name : List ℕ) (r : Option ValueAt) → HeaderFound s p.headers p.names name r → ValueRead s (station_value t s p.first name) r
   unfolding station_value
-  station-header h name r x = subst (λ (o : Sort). ValueRead s (value_by o t s p.first name) r) (sym (w.sort ∙ ap sort_for h)) (x _ _ w.headers)
+  station-header h name r x = subst (λ (o : Sort). ValueRead s (value_by o t s p.first name) r) (sym (sort-ctd p.kind t.sort w.sort h)) (x _ _ w.headers)
 
 -- ---- the calls
-module _ (s : List ℕ) (k : ℕ) (p : ProfileAt) (w : ProfileRead s k p) where
-  module _ (z : p.number ≡ 0 → ⊥) where
-    pub record-refused : no_profile p.number p.line p.column ≡ profile_of s k
-    record-refused = sym (w.stop z)
+module _ (s : List ℕ) (k : ℕ) (p : ProfileAt) (t : Table) (w : ProfileFound s k t p) where
+  pub record-given : (a b : ℕ) (c : CastTime) → c ≡ cast_time (station_value t s p.first (bytes "TIME"))
+      → a ≡ number_in (kind_of 8) (station_value t s p.first (bytes "CASTNO")) → b ≡ number_in (kind_of 9) (station_value t s p.first (bytes "DATE"))
+      → ◌≡◌ {A = ProfileRecord} (record { number = 0; line = 0; column = 0; time = c; first = p.first; rows = p.rows; castno = a; date = b }) (profile_of s k)
+  unfolding kind_of
+  record-given a b c ec ea eb =
+      (λ i. record { number = 0; line = 0; column = 0; time = ec i; first = p.first; rows = w.many i; castno = ea i; date = eb i }) ∙ sym w.record_is
 
-    pub place-refused : (name : List ℕ) → no_place p.number p.line p.column ≡ station_answer s (stationed_of s k name)
-    place-refused name = sym (ap (station_answer s) (w.stopped z name))
+  module _ (name : List ℕ) where
+    station_is : (y : Value) → station_value t s p.first name ≡ y → stationed_of s k name ≡ stationed_at y
+    station_is y e = w.station name ∙ ap stationed_at e
 
-  module _ (z : p.number ≡ 0) where
-    pub record-given : (a b : ℕ) (c : CastTime) → c ≡ cast_time (station_value (w.on z).0 s p.first (bytes "TIME"))
-        → a ≡ number_in (kind_of 8) (station_value (w.on z).0 s p.first (bytes "CASTNO")) → b ≡ number_in (kind_of 9) (station_value (w.on z).0 s p.first (bytes "DATE"))
-        → ◌≡◌ {A = ProfileRecord} (record { number = 0; line = 0; column = 0; time = c; first = p.first; rows = p.rows; castno = a; date = b }) (profile_of s k)
-    unfolding kind_of
-    record-given a b c ec ea eb =
-        (λ i. record { number = 0; line = 0; column = 0; time = ec i; first = p.first; rows = (w.on z).1.many i; castno = ea i; date = eb i }) ∙ sym (w.on z).1.record_is
+    pub place_none : station_value t s p.first name ≡ absent → no_place 21 0 0 ≡ station_answer s (stationed_of s k name)
+    place_none x = sym (ap (station_answer s) (station_is absent x))
 
-    module _ (name : List ℕ) (v : ValueAt) (x : ValueRead s (station_value (w.on z).0 s p.first name) v) where
-      station_is : (y : Value) → station_value (w.on z).0 s p.first name ≡ y → stationed_of s k name ≡ stationed_at y
-      station_is y e = (w.on z).1.station name ∙ ap stationed_at e
-
-      pub place_none : not v.found ≡ true → no_place 21 0 0 ≡ station_answer s (stationed_of s k name)
-      place_none h = sym (ap (station_answer s) (station_is absent (x.none (not_so v.found h))))
-
-      pub place-room : not v.found ≡ false → v.start + v.len ≤ length s
-      place-room h = x.room (so v.found h)
-
-      pub place_found : not v.found ≡ false → (q : Span) → q ≡ trim_span s v.start (v.start + v.len)
-          → ◌≡◌ {A = CellPlace} (record { number = 0; line = 0; column = 0; place = q }) (station_answer s (stationed_of s k name))
-      place_found h q e = (λ i. record { number = 0; line = 0; column = 0; place = e i }) ∙ sym (ap (station_answer s) (station_is _ (x.some (so v.found h))))
+    pub place_found : (v : ValueAt) → ValueStands s (station_value t s p.first name) v → (q : Span) → q ≡ trim_span s v.start (v.start + v.len)
+        → ◌≡◌ {A = CellPlace} (record { number = 0; line = 0; column = 0; place = q }) (station_answer s (stationed_of s k name))
+    place_found v x q e = (λ i. record { number = 0; line = 0; column = 0; place = e i }) ∙ sym (ap (station_answer s) (station_is _ x.is))
 
 -- both answers from the one by value
 module _ (s : List ℕ) (x : Stationed) (r : CellPlace) (e : r ≡ station_answer s x) where

@@ -29,28 +29,13 @@ use Rattle.format.specs.Inner.Heads.{LineStands, HeaderLines, none, more}
 use Rattle.format.specs.NamesLine.{column_in_line}
 use Rattle.format.proofs.NamesLineLaws.{column-found, column_lacking}
 use Rattle.format.specs.Inner.Rows.{line_cells}
-use Rattle.profiles.specs.Inner.Values.{ValueRead, ColumnsStand, value_in}
+use Rattle.profiles.specs.Inner.Values.{ValueStands, ColumnsStand, value_in}
 use Rattle.headers.proofs.HeaderLaws.{part-name, value_cell, value-stop}
 use Rattle.format.proofs.GridLaws.{SpanAt, span_at_lem}
 use Rattle.format.proofs.HeadLaws.{equals-inside}
 use Rattle.format.proofs.OpenedLaws.{headers-order}
 use Rattle.format.proofs.RunLaws.{line-short}
 use Rattle.format.proofs.VerdictLaws.{size_anywhere}
-
--- the code's test that there is none
-pub not_so : (b : Bool) → not b ≡ true → b ≡ false
-not_so true e = sym e
-not_so false e = refl
-
-pub so : (b : Bool) → not b ≡ false → b ≡ true
-so true e = refl
-so false e = sym e
-
--- a value that is not there
-pub none_read : (s : List ℕ) (x : Value) (r : ValueAt) → r.found ≡ false → x ≡ absent → ValueRead s x r
-none_read s x r h e =
-    let z : r.found ≡ true → ⊥ = λ y. true≢false (sym y ∙ h) in
-    record { none = λ y. e; some = λ y. absurd (z y); stop = λ y. absurd (z y); room = λ y. absurd (z y) }
 
 -- ---- the headers, one after the other
 pub record HeaderFirst (s : List ℕ) (end i l : ℕ) (hs : List Header) : Type 0 where
@@ -119,13 +104,12 @@ module _ {s : List ℕ} {end i : ℕ} {name : List ℕ} {x : Value} (w : Headers
           len_is : (header_place s w.line).len ≡ e - (q + 1)
           len_is = ap (λ (y : List ℕ). length (value_of y)) (sym g.text) ∙ length-drop (length (raw_name (line_at s i)) + 1) (line_at s i) ∙ omega arith
 
-      pub left-found : b ≡ true → ValueRead s x (record { found = true; separator = 10; start = q + 1; len = e - (q + 1); feed = e })
+      pub left-found : b ≡ true → ValueStands s x (record { separator = 10; start = q + 1; len = e - (q + 1); feed = e })
       left-found z = record {
-        none = λ y. absurd (true≢false y);
-        some = λ y. by_name ∙ ap (λ (c : Bool). cond c (given (value_of (line_at s i)) (header_place s w.line)) (header_value s name (w.line + 1) front.others)) (test ∙ z)
+        is = by_name ∙ ap (λ (c : Bool). cond c (given (value_of (line_at s i)) (header_place s w.line)) (header_value s name (w.line + 1) front.others)) (test ∙ z)
             ∙ ap (λ (v : List ℕ). given v (header_place s w.line)) (sym (value_cell left_parted)) ∙ ap (given (cell_at 10 s (q + 1))) place_is;
-        stop = λ y. value-stop left_parted;
-        room = λ y. omega (arith, left_parted.before, left_parted.room);
+        stop = value-stop left_parted;
+        room = omega (arith, left_parted.before, left_parted.room);
       }
 
 -- ---- the columns of a names line
@@ -149,14 +133,13 @@ module _ {s : List ℕ} {place i : ℕ} (w : ColumnsStand s place i) (name : Lis
     value_is = rw (lt-ltb (place_in name ns) (length ns) inside) (ap (λ (n : ℕ). given (get_or (line_cells s i) n []) (cell_span s i n)) column_is)
 
     pub cell-found : (e : ℕ) (p : Span) → e ≡ i + length (line_at s i) → p ≡ cell_span s i (c - 1)
-        → ValueRead s (value_in s place i name) (record { found = true; separator = 44; start = p.start; len = p.len; feed = e })
+        → ValueStands s (value_in s place i name) (record { separator = 44; start = p.start; len = p.len; feed = e })
     cell-found e p ee ep =
         let a : SpanAt s i (i + length (line_at s i)) (c - 1) = span_at_lem (c - 1) s i (i + length (line_at s i)) w.row (omega (arith, inside, column_is, w.many)) in
         record {
-          none = λ y. absurd (true≢false y);
-          some = λ y. value_is ∙ ap (λ (t : List ℕ). given t (cell_span s i (c - 1))) (sym a.text) ∙ ap (λ (x : Span). given (cell_at 44 s x.start) x) (sym ep);
-          stop = λ y. rw (ep, ee) (stop_moved w.row a.inside);
-          room = λ y. rw ep (omega (arith, a.room, w.row.room));
+          is = value_is ∙ ap (λ (t : List ℕ). given t (cell_span s i (c - 1))) (sym a.text) ∙ ap (λ (x : Span). given (cell_at 44 s x.start) x) (sym ep);
+          stop = rw (ep, ee) (stop_moved w.row a.inside);
+          room = rw ep (omega (arith, a.room, w.row.room));
         }
 
 -- ---- what a value writes
@@ -174,28 +157,22 @@ module _ (n : ℕ) (j : Judged) where
   time_told out_of_range e h = absurd (true≢false (rw e at h))
   time_told (good m v d) e h = let z : m ≡ false = rw e at h in rw (z, e)
 
-module _ {s : List ℕ} {x : Value} {v : ValueAt} (w : ValueRead s x v) where
-  pub number-none : (kind : ℕ) → not v.found ≡ true → 0 ≡ number_in (kind_of kind) x
-  number-none kind h = rw (w.none (not_so v.found h))
-
-  pub time-none : not v.found ≡ true → Missing ≡ cast_time x
-  time-none h = rw (w.none (not_so v.found h))
-
-  module _ (h : not v.found ≡ false) (kind : ℕ) (j : Judged) (ej : j ≡ judged_at kind v.separator s v.start v.feed) where
+module _ {s : List ℕ} {x : Value} {v : ValueAt} (w : ValueStands s x v) where
+  module _ (kind : ℕ) (j : Judged) (ej : j ≡ judged_at kind v.separator s v.start v.feed) where
     abbrev verdict : Verdict
     verdict = judge (kind_of kind) (cell_at v.separator s v.start)
 
     judged_is : j ≡ judged_of (cell_end v.separator s v.start) verdict
-    judged_is = ej ∙ judged-stop (w.stop (so v.found h)) kind
+    judged_is = ej ∙ judged-stop w.stop kind
 
     pub number-some : j.size ≡ number_in (kind_of kind) x
-    number-some = rw (w.some (so v.found h)) (ap (λ (y : Judged). y.size) judged_is ∙ size_anywhere (cell_end v.separator s v.start) verdict)
+    number-some = rw w.is (ap (λ (y : Judged). y.size) judged_is ∙ size_anywhere (cell_end v.separator s v.start) verdict)
 
-  module _ (h : not v.found ≡ false) (j : Judged) (ej : j ≡ judged_at 10 v.separator s v.start v.feed) where
+  module _ (j : Judged) (ej : j ≡ judged_at 10 v.separator s v.start v.feed) where
     pub time-missing : (not (eqb j.number 0) || j.minus) ≡ true → Missing ≡ cast_time x
     unfolding kind_of
-    time-missing z = rw (w.some (so v.found h)) (time_lacking (cell_end v.separator s v.start) j (verdict h 10 j ej) (judged_is h 10 j ej) z)
+    time-missing z = rw w.is (time_lacking (cell_end v.separator s v.start) j (verdict 10 j ej) (judged_is 10 j ej) z)
 
     pub time-given : (not (eqb j.number 0) || j.minus) ≡ false → Given (j.size / 100) (j.size % 100) ≡ cast_time x
     unfolding kind_of
-    time-given z = rw (w.some (so v.found h)) (time_told (cell_end v.separator s v.start) j (verdict h 10 j ej) (judged_is h 10 j ej) z)
+    time-given z = rw w.is (time_told (cell_end v.separator s v.start) j (verdict 10 j ej) (judged_is 10 j ej) z)

@@ -17,19 +17,21 @@ mod values;
 pub fn profile(file: &[u8], k: u64) -> ProfileRecord
     ensures { result ≡ profile_of file.now k }
 {
-    let p = runs::profile_at(file, k);
-    if p.number != 0 {
-        return ProfileRecord {
-            number: p.number,
-            line: p.line,
-            column: p.column,
-            time: CastTime::Missing,
-            first: 0,
-            rows: 0,
-            castno: 0,
-            date: 0,
-        };
-    }
+    let p = match runs::profile_at(file, k) {
+        Ok(p) => p,
+        Err(r) => {
+            return ProfileRecord {
+                number: r.number,
+                line: r.line,
+                column: r.column,
+                time: CastTime::Missing,
+                first: 0,
+                rows: 0,
+                castno: 0,
+                date: 0,
+            };
+        }
+    };
     let time = runs::station_value(file, p, b"TIME");
     let castno = runs::station_value(file, p, b"CASTNO");
     let date = runs::station_value(file, p, b"DATE");
@@ -49,14 +51,13 @@ pub fn profile(file: &[u8], k: u64) -> ProfileRecord
 pub fn station_place<'a>(file: &'a [u8], k: u64, name: &'a [u8]) -> CellPlace
     ensures { result ≡ station_answer file.now (stationed_of file.now k name.now) }
 {
-    let p = runs::profile_at(file, k);
-    if p.number != 0 {
-        return no_place(p.number, p.line, p.column);
-    }
-    let v = runs::station_value(file, p, name);
-    if !v.found {
+    let p = match runs::profile_at(file, k) {
+        Ok(p) => p,
+        Err(r) => return no_place(r.number, r.line, r.column),
+    };
+    let Some(v) = runs::station_value(file, p, name) else {
         return no_place(refusals::NO_SUCH_PLACE, 0, 0);
-    }
+    };
     CellPlace {
         number: 0,
         line: 0,
@@ -66,6 +67,7 @@ pub fn station_place<'a>(file: &'a [u8], k: u64, name: &'a [u8]) -> CellPlace
 }
 
 // A station value of profile k by its name: the trimmed part of the file itself; refusal gets number, line and column.
+// No Result: on refusal it is an empty part of the file, the form that document 01 asks of `cell`.
 pub fn station<'a>(file: &'a [u8], k: u64, name: &'a [u8], refusal: &mut [u64; 3]) -> &'a [u8]
     ensures part { IsPart file.entry result (station_place file.now (stationed_of file.now k name.now)) }
     ensures refusal_after { refusal.new ≡ station_refusal (stationed_of file.now k name.now) }

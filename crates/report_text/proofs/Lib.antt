@@ -2,3 +2,4 @@ pub mod ReportLaws
 pub mod RowLengthLaws
 pub mod LineLengthLaws
 pub mod FitLaws
+pub mod ReadLaws

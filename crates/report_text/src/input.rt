@@ -11,6 +11,7 @@ pub fn read_input<R: Read>(from: &mut R, room: &mut [u8]) -> io::Result<usize>
     ensures bytes { IfOk result (λ n. Consumes (R.remaining from.old) (R.remaining from.new) (take n room.new)) }
     ensures end { IfOk result (λ n. n < length room.new → IsAtEnd (R.remaining from.new)) }
 {
+    // By hand: read_exact gives no count where the input ends first, and read_to_end fills a Vec, on the heap.
     let mut n = 0;
     while n < room.len() {
         let got = from.read(&mut room[n..])?;

@@ -2,14 +2,17 @@
 
 #![tactic(auto)]
 
-ghost use Rattle.std.specs.Prelude.{◌≡◌, ◌++◌, length, take, drop};
+ghost use Rattle.std.specs.Prelude.{◌≡◌, ◌++◌, length, take, drop, OnOk, IfSome};
+ghost use Rattle.std.specs.Io.KnownBytes.{Consumes, Appends};
 ghost use Rattle.io.specs.Counts.{IsPrefixLen};
 ghost use Rattle.pages.specs.Pages.{page, lay};
 ghost use Rattle.report_text.specs.Report.{report_of};
-ghost use Rattle.report_text.specs.Promises.{ReadSays};
+ghost use Rattle.report_text.specs.Promises.{input_bytes, ReadSays};
 
 use crate::report_lines::{put_accepted, put_profiles, put_refused};
 use pages::put;
+use std::io;
+use std::io::{Read, Write};
 
 mod input;
 mod report_lines;
@@ -44,14 +47,12 @@ pub fn report(file: &[u8], room: &mut [u8]) -> usize
 fn report_first(input: &[u8], n: usize, room: &mut [u8]) -> usize
     ensures { page room.new result ≡ lay (page room.old 0) (report_of (take n input.now)) }
 {
-    if n < input.len() {
-        return report(&input[..n], room);
-    }
-    report(input, room)
+    report(&input[..n.min(input.len())], room)
 }
 
 // Puts the report on the first n bytes of the input at the start of the page and answers its length. Where they were read from a file, it is the report on that
-// file, however long that is. So many bytes of the page can be lent on (the last clause, which follows from the others).
+// file, however long that is. So many bytes of the page can be lent on (the last clause, which follows from the others). Arrays, and n beside one: read_says rests on
+// the input's size, and value on the page's, which slices would not say.
 pub fn report_page(input: &[u8; INPUT_BYTES], n: usize, room: &mut [u8; PAGE_BYTES]) -> usize
     ensures value { result ≡ length (report_of (take n input.now)) }
     ensures room_after { room.new ≡ report_of (take n input.now) ++ drop result room.old }
@@ -59,4 +60,16 @@ pub fn report_page(input: &[u8; INPUT_BYTES], n: usize, room: &mut [u8; PAGE_BYT
     ensures prefix_len { IsPrefixLen result room.new }
 {
     report_first(input, n, room)
+}
+
+// The report program: reads a file, as far as its report asks, and writes the report on the whole of it.
+pub fn report_input<R: Read, W: Write>(from: &mut R, to: &mut W) -> io::Result<()>
+    ensures reads { OnOk result (IfSome (R.remaining from.old) (λ f. Consumes (R.remaining from.old) (R.remaining from.new) (take input_bytes f))) }
+    ensures writes { OnOk result (IfSome (R.remaining from.old) (λ f. Appends (W.contents to.old) (W.contents to.new) (report_of f))) }
+{
+    let mut input = [0u8; INPUT_BYTES];
+    let mut page = [0u8; PAGE_BYTES];
+    let n = read_input(from, &mut input)?;
+    let length = report_page(&input, n, &mut page);
+    to.write_all(&page[..length])
 }

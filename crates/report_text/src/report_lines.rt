@@ -1,4 +1,5 @@
-// The lines of the report.
+// The lines of the report. Each call is handed the place and answers the next one: a page that holds the lent room as a field would owe, at each of its calls, a
+// further clause that it still lends the same room.
 ghost use Rattle.std.specs.Prelude.{◌≡◌};
 ghost use Rattle.format.specs.Records.{profile_of};
 ghost use Rattle.pages.specs.Pages.{page, lay};
@@ -46,9 +47,8 @@ fn kind_field(room: &mut [u8], at: usize, kind: FileKind) -> usize
 pub fn put_accepted(room: &mut [u8], c: Checked) -> usize
     ensures { page room.new result ≡ lay (page room.old 0) (accepted_line c) }
 {
-    let kind = c.kind;
     let a = put(room, 0, b"accepted");
-    let b = kind_field(room, a, kind);
+    let b = kind_field(room, a, c.kind);
     let d = number_field(room, b, c.columns);
     let e = number_field(room, d, c.rows);
     let f = number_field(room, e, c.profiles);
@@ -82,10 +82,8 @@ pub fn put_profiles(file: &[u8], n: u64, room: &mut [u8], from: usize) -> usize
     ensures { page room.new result ≡ lay (page room.old from) (profile_lines file.now n) }
 {
     let mut at = from;
-    let mut k: u64 = 0;
-    while k < n {
+    for k in 0..n {
         at = put_profile(file, k + 1, room, at);
-        k += 1;
     }
     at
 }

@@ -2,10 +2,11 @@
 use Prim.Native.Nat.{ℕ, suc, ◌+◌, ◌-◌, ◌≤◌, ◌<◌}
 use mathlib.Core.Path.{◌≡◌, refl, sym, ap, subst, ◌∙◌}
 use mathlib.Core.List.{List, [], ◌∷◌}
-use mathlib.Core.Bool.{Bool, true, false, cond, not, ◌&&◌, ◌||◌, true≢false}
+use mathlib.Core.Bool.{Bool, true, false, cond, not, ◌&&◌}
 use native.Mathlib.Omega.{arith}
 use lib.ListN.{length, get_or}
 use lib.Dec.{eqb}
+use mir.Val.{bool_byte}
 use borrow.Author.Tests.{eq-eqb, ne_eqb, eqb-true, eqb-false}
 use Rattle.line_bytes.specs.declared.Span.{Span}
 use Rattle.verdicts.specs.declared.Keys.{Keys}
@@ -23,11 +24,12 @@ use Rattle.line_bytes.proofs.SpaceLaws.{span-bytes}
 use Rattle.format.specs.Faults.{clean, breaks, first_of}
 use Rattle.format.specs.Profiles.{missing_in_row, cell_of_kind, key_of}
 use Rattle.rows.specs.declared.Row.{Row}
+use Rattle.format.specs.declared.BrokenRule.{BrokenRule}
+use Rattle.std.specs.Prelude.{Result, Ok, Err}
 use Rattle.format.specs.Rows.{cell_rules, row_rules}
 use Rattle.format.specs.Inner.Faults.{cell_fault, row_fault}
 use Rattle.format.specs.Inner.Rows.{span_text, key_at, line_cells}
-use Rattle.rows.specs.Inner.RowReads.{row_refused, refused_at, row_by, row_for, RowRead}
-use Rattle.format.proofs.FaultLaws.{fault-number}
+use Rattle.rows.specs.Inner.RowReads.{wrong_count, broken_at, row_by, row_for, RowKept, RowRead}
 use Rattle.format.proofs.GridWalkLaws.{cell-slice}
 use Rattle.format.proofs.VerdictLaws.{fault-good, fault_bad, number-good, number_bad}
 
@@ -302,15 +304,15 @@ judging_full {s} {e} {js} {at} {g} {m} {w} {r} (more {k} {l} {ks} t h f j) z n q
           (y.key _ _ _ (noted-held t k i));
     }
 
--- a row begins a profile or not
-pub border_one : (a b c : Bool) (n : ℕ) → n ≡ cond (not (a && b)) 1 0 → b ≡ c → n ≡ cond (a && c) 0 1
-border_one a b c n h e = h ∙ rw e (go (a && c))
+-- a row begins a profile where its key is not kept
+pub border_one : (k e : Bool) (n : ℕ) → n ≡ bool_byte (not k) → k ≡ e → n ≡ cond e 0 1
+border_one k e n h q = h ∙ rw q (go e)
   where
-    go : (x : Bool) → ◌≡◌ {A = ℕ} (cond (not x) 1 0) (cond x 0 1)
+    go : (x : Bool) → bool_byte (not x) ≡ cond x 0 1
     go true = refl
     go false = refl
 
-pub one-few : (b : Bool) (n : ℕ) → n ≡ cond b 1 0 → n ≤ 1
+one-few : (b : Bool) (n : ℕ) → n ≡ cond b 1 0 → n ≤ 1
 one-few true n h = omega arith
 one-few false n h = omega arith
 
@@ -349,67 +351,45 @@ module _ (ks : List ℕ) (ts : List (List ℕ)) (h : row_fault ks ts ≡ clean) 
   kept-cells : cell_fault 1 ks ts ≡ clean
   kept-cells = sym (rules-cells ks ts kept-count) ∙ h
 
-row-short : (s ks : List ℕ) (i : ℕ) → i < length s → (length (line_cells s i) ≡ length ks → ⊥) → RowRead s ks i (row_refused i 15)
-row-short s ks i b h = record {
-  fault = ap (breaks 15) (omega arith) ∙ sym (rules-count ks (line_cells s i) h);
-  low = omega arith;
-  high = b;
-  few = omega arith;
-  missing = λ z. absurd (omega arith);
-  key = λ z. absurd (omega arith);
-}
+row-short : (s ks : List ℕ) (i : ℕ) → (length (line_cells s i) ≡ length ks → ⊥) → RowRead s ks i (Err wrong_count)
+row-short s ks i h = rules-count ks (line_cells s i) h
 
 -- ---- the returns
 module _ (s ks : List ℕ) (i e : ℕ) (t : Stop 44 s i e) (n : 0 < length ks) (r : CellsRead) (q : r ≡ cells_at ks 44 s i e) where
   judged : Judging s e ks i 0 0 no_keys r
   judged = judging-all s ks i e r t n q
 
-  inside : i < length s
-  inside = omega (arith, t.inside, t.room)
-
   pub row_within : r.at ≤ e
   row_within = judging-within judged
 
-  pub row_left : (r.number ≡ 0 → ⊥) → Stop 44 s r.start e × (r.good ≤ length ks)
-  row_left z = let f = judging-refused judged z in (f.stop, omega (arith, f.left))
+  pub row_left : (r.number ≡ 0 → ⊥) → (r.good ≤ length ks) × (i ≤ r.start) × (r.start < length s)
+  row_left z = let f = judging-refused judged z in (omega (arith, f.left), f.low, omega (arith, f.stop.inside, f.stop.room))
 
-  pub row-refused : (x : Row) → (r.number ≡ 0 → ⊥)
-      → x ≡ cond (eqb (length (line_cells s r.start)) (length ks - r.good)) (row_refused r.start r.number) (row_refused i 15) → RowRead s ks i x
-  row-refused x z h = rw h (go (eqb (length (line_cells s r.start)) (length ks - r.good)) refl)
+  pub row-refused : (r.number ≡ 0 → ⊥) → RowRead s ks i (Err (broken_at s i r.start (length ks - r.good) r.number))
+  row-refused z = go (eqb (length (line_cells s r.start)) (length ks - r.good)) refl
     where
       f : CellRefused s e ks i 0 r
       f = judging-refused judged z
 
       go : (b : Bool) → eqb (length (line_cells s r.start)) (length ks - r.good) ≡ b
-          → RowRead s ks i (cond b (row_refused r.start r.number) (row_refused i 15))
+          → RowRead s ks i (Err (cond b (record { number = r.number; column = r.start - i + 1 }) wrong_count))
       go true p =
           let m : length (line_cells s i) ≡ length ks = omega (arith, eqb-true (length (line_cells s r.start)) (length ks - r.good) p, f.count, f.left) in
-          record {
-            fault = fault-number r.number (r.start - i + 1) z
-                ∙ sym (rules-cells ks (line_cells s i) m ∙ f.fault 1 ∙ ap (breaks r.number) (omega arith));
-            low = f.low;
-            high = omega (arith, f.stop.inside, f.stop.room);
-            few = omega arith;
-            missing = λ y. absurd (z y);
-            key = λ y. absurd (z y);
-          }
-      go false p = row-short s ks i inside (λ m. eqb-false (length (line_cells s r.start)) (length ks - r.good) p (omega (arith, f.count, f.left, m)))
+          rules-cells ks (line_cells s i) m ∙ f.fault 1 ∙ ap (breaks r.number) (omega arith)
+      go false p = row-short s ks i (λ m. eqb-false (length (line_cells s r.start)) (length ks - r.good) p (omega (arith, f.count, f.left, m)))
 
-  pub row_odd : r.number ≡ 0 → (r.good ≡ length ks → get_or s r.at 0 ≡ 10 → ⊥) → RowRead s ks i (row_refused i 15)
-  row_odd z h = row-short s ks i inside (judging_odd judged z (λ a b. h (omega arith) b))
+  pub row_odd : r.number ≡ 0 → (r.good ≡ length ks → get_or s r.at 0 ≡ 10 → ⊥) → RowRead s ks i (Err wrong_count)
+  row_odd z h = row-short s ks i (judging_odd judged z (λ a b. h (omega arith) b))
 
-  pub row-good : r.number ≡ 0 → length ks ≤ 256 → r.good ≡ length ks → get_or s r.at 0 ≡ 10
-      → RowRead s ks i (record { at = i; number = 0; missing = r.missing; keys = r.keys })
+  pub row-good : r.number ≡ 0 → length ks ≤ 256 → r.good ≡ length ks → get_or s r.at 0 ≡ 10 → RowKept s ks i (record { missing = r.missing; keys = r.keys })
   row-good z m g f =
       let x = judging_full judged z (omega arith) f in
       let k = x.key [] [] [] (none-held s) in
       record {
-        fault = sym (rules-cells ks (line_cells s i) x.count ∙ x.fault 1);
-        low = omega arith;
-        high = inside;
+        rules = rules-cells ks (line_cells s i) x.count ∙ x.fault 1;
         few = omega (arith, x.missing, missing-few ks (line_cells s i));
-        missing = λ y. x.missing ∙ omega arith;
-        key = λ y d. record { expocode = k.expocode d; stnnbr = k.stnnbr d; castno = k.castno d };
+        missing = x.missing ∙ omega arith;
+        key = λ d. record { expocode = k.expocode d; stnnbr = k.stnnbr d; castno = k.castno d };
       }
 
   -- the keys of a row that keeps its rules
@@ -436,50 +416,51 @@ module _ (s ks : List ℕ) (i e : ℕ) (t : Stop 44 s i e) (n : 0 < length ks) (
 
 -- ---- the row for any place of a line feed
 module _ (s ks : List ℕ) (i e : ℕ) (r : CellsRead) (q : r ≡ cells_at ks 44 s i e) where
-  stopped : (b : Bool) → stops_at 44 s i e ≡ b → (r.number ≡ 0 → r.at < length s) × ((r.number ≡ 0 → ⊥) → r.good ≤ length ks)
+  abbrev Placed : List ℕ → CellsRead → Type 0
+  Placed js x = (x.number ≡ 0 → x.at < length s) × ((x.number ≡ 0 → ⊥) → (x.good ≤ length js) × (i ≤ x.start) × (x.start ≤ i + length s))
+
+  placed-none : (js : List ℕ) → Placed js (no_cells i)
+  placed-none js = (λ z. absurd (omega (arith, z)), λ z. (omega arith, omega arith, omega arith))
+
+  placed : (b : Bool) → stops_at 44 s i e ≡ b → Placed ks r
   unfolding cells_at cells_from
-  stopped false h = let w : r ≡ no_cells i = q ∙ rw h in rw w (λ z. absurd (omega (arith, z)), λ z. omega arith)
-  stopped true h = go ks q
+  placed false h = let w : r ≡ no_cells i = q ∙ rw h in subst (Placed ks) (sym w) (placed-none ks)
+  placed true h = go ks q
     where
-      go : (ks : List ℕ) → r ≡ cells_at ks 44 s i e → (r.number ≡ 0 → r.at < length s) × ((r.number ≡ 0 → ⊥) → r.good ≤ length ks)
-      go [] q = let w : r ≡ no_cells i = q ∙ rw h in rw w (λ z. absurd (omega (arith, z)), λ z. omega arith)
-      go (k ∷ ks) q =
-          let t = stop_from 44 s i e h in
-          (λ z. omega (arith, row_within s (k ∷ ks) i e t (omega arith) r q, t.room), λ z. (row_left s (k ∷ ks) i e t (omega arith) r q z).1)
+      go : (js : List ℕ) → r ≡ cells_at js 44 s i e → Placed js r
+      go [] q = let w : r ≡ no_cells i = q ∙ rw h in subst (Placed []) (sym w) (placed-none [])
+      go (k ∷ js) q =
+          let t = stop_from 44 s i e h in (
+            λ z. omega (arith, row_within s (k ∷ js) i e t (omega arith) r q, t.room),
+            λ z. let w = row_left s (k ∷ js) i e t (omega arith) r q z in (w.0, w.1, omega (arith, w.2)),
+          )
 
   pub cells-inside : r.number ≡ 0 → r.at < length s
-  cells-inside = (stopped (stops_at 44 s i e) refl).0
+  cells-inside = (placed (stops_at 44 s i e) refl).0
 
-  pub cells-few : (r.number ≡ 0 → ⊥) → r.good ≤ length ks
-  cells-few = (stopped (stops_at 44 s i e) refl).1
+  pub cells-refused : (r.number ≡ 0 → ⊥) → (r.good ≤ length ks) × (i ≤ r.start) × (r.start ≤ i + length s)
+  cells-refused = (placed (stops_at 44 s i e) refl).1
 
-  pub row_by_lem : (x : Row) → x ≡ row_by ks s i r → x ≡ row_for ks s i e
+  pub row_by_lem : (x : Result Row BrokenRule) → x ≡ row_by ks s i r → x ≡ row_for ks s i e
   unfolding row_for
   row_by_lem x h = h ∙ ap (row_by ks s i) q
 
   -- each of the code's answers
-  pub by-refused : (x : Row) → (r.number ≡ 0 → ⊥) → x ≡ refused_at s i r.start (length ks - r.good) r.number → x ≡ row_for ks s i e
-  by-refused x z h = row_by_lem x (rw (ne_eqb r.number 0 z) h)
+  pub by-refused : (b : BrokenRule) → (r.number ≡ 0 → ⊥) → b ≡ broken_at s i r.start (length ks - r.good) r.number → Err b ≡ row_for ks s i e
+  by-refused b z h = row_by_lem (Err b) (rw (ne_eqb r.number 0 z) (ap Err h))
 
   module _ (z : r.number ≡ 0) where
-    pub by_odd : (x : Row) → (not (eqb r.good (length ks)) || not (eqb (get_or s r.at 0) 10)) ≡ true → x ≡ row_refused i 15 → x ≡ row_for ks s i e
-    by_odd x h k = row_by_lem x (rw (eq-eqb r.number 0 z, neither (eqb r.good (length ks)) (eqb (get_or s r.at 0) 10) h) k)
-      where
-        neither : (a b : Bool) → (not a || not b) ≡ true → (a && b) ≡ false
-        neither true true h = absurd (true≢false (sym h))
-        neither true false h = refl
-        neither false b h = refl
+    pub by_count : (r.good ≡ length ks → ⊥) → Err wrong_count ≡ row_for ks s i e
+    by_count n = row_by_lem _ (rw (eq-eqb r.number 0 z, ne_eqb r.good (length ks) n))
 
-    pub by_whole : (not (eqb r.good (length ks)) || not (eqb (get_or s r.at 0) 10)) ≡ false → ◌≡◌ {A = Row} (record { at = i; number = 0; missing = r.missing; keys = r.keys }) (row_for ks s i e)
-    by_whole h = row_by_lem _ (rw (eq-eqb r.number 0 z, both (eqb r.good (length ks)) (eqb (get_or s r.at 0) 10) h))
-      where
-        both : (a b : Bool) → (not a || not b) ≡ false → (a && b) ≡ true
-        both true true h = refl
-        both true false h = absurd (true≢false h)
-        both false b h = absurd (true≢false h)
+    pub by_feed : r.good ≡ length ks → (get_or s r.at 0 ≡ 10 → ⊥) → Err wrong_count ≡ row_for ks s i e
+    by_feed n f = row_by_lem _ (rw (eq-eqb r.number 0 z, eq-eqb r.good (length ks) n, ne_eqb (get_or s r.at 0) 10 f))
+
+    pub by_whole : r.good ≡ length ks → get_or s r.at 0 ≡ 10 → Ok (record { missing = r.missing; keys = r.keys }) ≡ row_for ks s i e
+    by_whole n f = row_by_lem _ (rw (eq-eqb r.number 0 z, eq-eqb r.good (length ks) n, eq-eqb (get_or s r.at 0) 10 f))
 
 -- ---- what it says of a line
-pub row_read : (s ks : List ℕ) (i e : ℕ) (x : Row) → x ≡ row_for ks s i e → Stop 44 s i e → 0 < length ks → length ks ≤ 256 → RowRead s ks i x
+pub row_read : (s ks : List ℕ) (i e : ℕ) (x : Result Row BrokenRule) → x ≡ row_for ks s i e → Stop 44 s i e → 0 < length ks → length ks ≤ 256 → RowRead s ks i x
 unfolding row_for
 row_read s ks i e x h t n m = rw h (go (eqb r.number 0) (eqb r.good (length ks)) (eqb (get_or s r.at 0) 10) refl refl refl)
   where
@@ -487,8 +468,8 @@ row_read s ks i e x h t n m = rw h (go (eqb r.number 0) (eqb r.good (length ks))
     r = cells_at ks 44 s i e
 
     go : (a b c : Bool) → eqb r.number 0 ≡ a → eqb r.good (length ks) ≡ b → eqb (get_or s r.at 0) 10 ≡ c
-        → RowRead s ks i (cond a (cond (b && c) (record { at = i; number = 0; missing = r.missing; keys = r.keys }) (row_refused i 15)) (refused_at s i r.start (length ks - r.good) r.number))
-    go false b c p g f = row-refused s ks i e t n r refl _ (eqb-false r.number 0 p) refl
+        → RowRead s ks i (cond a (cond (b && c) (Ok (record { missing = r.missing; keys = r.keys })) (Err wrong_count)) (Err (broken_at s i r.start (length ks - r.good) r.number)))
+    go false b c p g f = row-refused s ks i e t n r refl (eqb-false r.number 0 p)
     go true false c p g f = row_odd s ks i e t n r refl (eqb-true r.number 0 p) (λ x y. eqb-false r.good (length ks) g x)
     go true true false p g f = row_odd s ks i e t n r refl (eqb-true r.number 0 p) (λ x y. eqb-false (get_or s r.at 0) 10 f y)
     go true true true p g f = row-good s ks i e t n r refl (eqb-true r.number 0 p) m (eqb-true r.good (length ks) g) (eqb-true (get_or s r.at 0) 10 f)

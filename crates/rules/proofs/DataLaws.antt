@@ -2,28 +2,28 @@
 use Prim.Native.Nat.{ℕ, suc, ◌+◌, ◌-◌, ◌≤◌, ◌<◌}
 use mathlib.Core.Path.{◌≡◌, refl, sym, ap, ◌∙◌}
 use mathlib.Core.List.{List, [], ◌∷◌, map}
-use mathlib.Core.Bool.{Bool, true, false, cond, ◌&&◌, true≢false}
+use mathlib.Core.Bool.{Bool, true, false, cond, ◌&&◌}
 use native.Mathlib.Omega.{arith}
-use lib.ListN.{length, get_or, take, drop}
+use lib.ListN.{length, take, drop}
 use lib.Dec.{ltb}
 use borrow.Author.Tests.{eq-eqb, ne_eqb, lt-ltb, le-ltb}
 use Rattle.line_bytes.specs.Cells.{line_at, pieces}
 use Rattle.verdicts.specs.Rows.{no_keys}
 use Rattle.line_bytes.specs.Inner.Scans.{Stop}
-use Rattle.format.specs.declared.Line.{Line}
+use Rattle.std.specs.Prelude.{Ok, Err}
+use Rattle.format.specs.declared.BrokenRule.{BrokenRule}
 use Rattle.rows.specs.declared.Row.{Row}
 use Rattle.rules.specs.declared.data.Data.{Data}
 use Rattle.format.specs.Faults.{Fault, clean, breaks, first_of}
 use Rattle.format.specs.Columns.{kinds_of}
 use Rattle.format.specs.Rows.{is_end_data, bound_rules}
 use Rattle.format.specs.Places.{Table, Place, rows, after, stopped, last_piece_rules, end_rules, step, refused, run}
-use Rattle.format.specs.Inner.Faults.{line_fault, row_fault, bound_fault, as_fault}
+use Rattle.format.specs.Inner.Faults.{line_fault, row_fault, bound_fault}
 use Rattle.format.specs.Profiles.{missing_in_row, missing_in_rows, Key, key_of, same_key, borders_from, run_count}
 use Rattle.format.specs.Inner.Lines.{lines_from, line_of}
 use Rattle.format.specs.Inner.Rows.{key_at, line_cells, rows_from}
-use Rattle.rows.specs.Inner.RowReads.{RowRead}
-use Rattle.rules.specs.Inner.Data.{data_refused, border, with_row, DataHeld, RowAdded, DataEnded, LineRead, DataRead}
-use Rattle.format.proofs.FaultLaws.{fault-number}
+use Rattle.rows.specs.Inner.RowReads.{RowKept}
+use Rattle.rules.specs.Inner.Data.{border, DataHeld, LineHeld, RowAdded, DataTold}
 use Rattle.format.proofs.RuleLaws.{end_step, row_step}
 use Rattle.format.proofs.RunLaws.{run-stopped, run-line, lines_end, lines_more, line_clean, line_broken, piece-take}
 
@@ -59,17 +59,8 @@ pub rows-below : {n : ℕ} → n ≤ 1000000 → (n ≡ 1000000 → ⊥) → n <
 rows-below h z = omega arith
 
 -- ---- the line from i to its line feed at e, which keeps rules 1 to 5
-pub record LineHeld (s : List ℕ) (i e : ℕ) : Type 0 where
-  pub rules : line_fault true (line_at s i) ≡ clean
-  pub room : i + length (line_at s i) < length s
-  pub end : e ≡ i + length (line_at s i)
-  pub feed : get_or s e 0 ≡ 10
-
-pub line-held : (s : List ℕ) (i : ℕ) (u : Line) → u ≡ line_of true s i → u.number ≡ 0 → LineHeld s i u.end
-line-held s i u q z =
-    let g = line_clean true s i (ap (λ (v : Line). v.number) (sym q) ∙ z) in
-    let e = ap (λ (v : Line). v.end) q in
-    record { rules = g.0; room = g.1; end = e ∙ g.2; feed = ap (λ (p : ℕ). get_or s p 0) e ∙ g.3 }
+pub line-held : (s : List ℕ) (i q : ℕ) → line_of true s i ≡ Ok q → LineHeld s i q
+line-held s i q z = let g = line_clean true s i q z in record { rules = g.0; room = g.1; end = g.2; feed = g.3 }
 
 pub line-within : {s : List ℕ} {i e : ℕ} → LineHeld s i e → (i ≤ e) × (e < length s)
 line-within g = (omega (arith, g.end), omega (arith, g.end, g.room))
@@ -88,21 +79,8 @@ line-test {s} {i} {e} g b c h q = sym (ap is_end_data (line-part s i e g.end)) �
 
 -- ---- what one line gives
 module _ (s ks : List ℕ) (d : Data) where
-  pub line_refused : (u : Line) → u ≡ line_of true s d.at → d.at < length s → (u.number ≡ 0 → ⊥)
-      → LineRead s ks d (data_refused d u.number u.column)
-  line_refused u q h z = record {
-    ended = λ y. record {
-      counted = refl;
-      missing = refl;
-      profiles = refl;
-      stop = λ t l k y. line_broken l (rows t d.rows) s d.at true h (λ v. z (ap (λ (x : Line). x.number) q ∙ v))
-          (λ x n c e. step_broken l t d.rows x n c e) tt
-          ∙ ap (λ (x : Line). refused x.number l x.column) (sym q);
-      on = λ t l k y. absurd (z y);
-    };
-    added = λ y. absurd (true≢false y);
-    inside = λ y. absurd (z y);
-  }
+  pub line_refused : (b : BrokenRule) → line_of true s d.at ≡ Err b → d.at < length s → (t : Table) (l : ℕ) → run l (rows t d.rows) (lines_from s d.at) ≡ refused b.number l b.column
+  line_refused b q h t l = line_broken b l (rows t d.rows) s d.at true h q (λ x n c e. step_broken l t d.rows x n c e) tt
 
   module _ (e : ℕ) (g : LineHeld s d.at e) where
     run-next : (l : ℕ) (t : Table) (p : Place) → step l (rows t d.rows) (line_at s d.at) ≡ p
@@ -111,76 +89,47 @@ module _ (s ks : List ℕ) (d : Data) where
         ∙ ap (λ (p : Place). run (l + 1) p (lines_from s (d.at + length (line_at s d.at) + 1))) f
         ∙ ap (λ (a : ℕ). run (l + 1) p (lines_from s (a + 1))) (sym g.end)
 
-    line-stopped : (n c : ℕ) → (n ≡ 0 → ⊥) → ((t : Table) (l : ℕ) → kinds_of t.names ≡ ks → step l (rows t d.rows) (line_at s d.at) ≡ stopped n l c)
-        → LineRead s ks d (data_refused d n c)
-    line-stopped n c z f = record {
-      ended = λ y. record {
-        counted = refl;
-        missing = refl;
-        profiles = refl;
-        stop = λ t l k u. run-next l t (stopped n l c) (f t l k) ∙ run-stopped (l + 1) n l c (lines_from s (e + 1));
-        on = λ t l k u. absurd (z u);
-      };
-      added = λ y. absurd (true≢false y);
-      inside = λ y. absurd (z y);
-    }
+    line-stopped : (n c l : ℕ) (t : Table) → step l (rows t d.rows) (line_at s d.at) ≡ stopped n l c → run l (rows t d.rows) (lines_from s d.at) ≡ refused n l c
+    line-stopped n c l t f = run-next l t (stopped n l c) f ∙ run-stopped (l + 1) n l c (lines_from s (e + 1))
 
-    inside-next : (d.at < e + 1) × (e + 1 ≤ length s)
+    pub inside-next : (d.at < e + 1) × (e + 1 ≤ length s)
     inside-next = (omega (arith, (line-within g).0), omega (arith, (line-within g).1))
 
-    pub line-none : is_end_data (line_at s d.at) ≡ true → d.rows ≡ 0 → LineRead s ks d (data_refused d 19 1)
-    line-none y z = line-stopped 19 1 (λ u. omega arith) (λ t l k. step-none l t d.rows (line_at s d.at) g.rules y z)
+    pub line-none : is_end_data (line_at s d.at) ≡ true → d.rows ≡ 0 → (t : Table) (l : ℕ) → run l (rows t d.rows) (lines_from s d.at) ≡ refused 19 l 1
+    line-none y z t l = line-stopped 19 1 l t (step-none l t d.rows (line_at s d.at) g.rules y z)
 
-    pub line-end : is_end_data (line_at s d.at) ≡ true → (d.rows ≡ 0 → ⊥) → DataHeld d
-        → LineRead s ks d (record { at = e + 1; number = d.number; column = d.column; done = true; rows = d.rows; profiles = d.profiles; missing = d.missing; last = d.last })
-    line-end y z v = record {
-      ended = λ u. record {
-        counted = refl;
-        missing = refl;
-        profiles = refl;
-        stop = λ t l k u. absurd (u v.clean);
-        on = λ t l k u. run-next l t (after t d.rows) (step_end l t d.rows (line_at s d.at) g.rules y z);
-      };
-      added = λ u. absurd (true≢false u);
-      inside = λ u. inside-next;
-    }
+    pub line-end : is_end_data (line_at s d.at) ≡ true → (d.rows ≡ 0 → ⊥) → (t : Table) (l : ℕ)
+        → run l (rows t d.rows) (lines_from s d.at) ≡ run (l + 1) (after t d.rows) (lines_from s (e + 1))
+    line-end y z t l = run-next l t (after t d.rows) (step_end l t d.rows (line_at s d.at) g.rules y z)
 
     module _ (y : is_end_data (line_at s d.at) ≡ false) where
-      pub line_full : 1000000 ≤ d.rows → LineRead s ks d (data_refused d 20 1)
-      line_full z = line-stopped 20 1 (λ u. omega arith) (λ t l k. step_full l t d.rows (line_at s d.at) g.rules y z)
+      pub line_full : 1000000 ≤ d.rows → (t : Table) (l : ℕ) → run l (rows t d.rows) (lines_from s d.at) ≡ refused 20 l 1
+      line_full z t l = line-stopped 20 1 l t (step_full l t d.rows (line_at s d.at) g.rules y z)
 
-      module _ (z : d.rows < 1000000) (w : Row) (v : RowRead s ks d.at w) where
-        rules_of_lem : (t : Table) → kinds_of t.names ≡ ks → (f : Fault) → as_fault w.number (w.at - d.at + 1) ≡ f
-            → row_fault (kinds_of t.names) (pieces 44 (line_at s d.at)) ≡ f
-        rules_of_lem t k f e = ap (λ (js : List ℕ). row_fault js (pieces 44 (line_at s d.at))) k ∙ sym v.fault ∙ e
+      module _ (z : d.rows < 1000000) where
+        rules_of_lem : (t : Table) → kinds_of t.names ≡ ks → (f : Fault) → row_fault ks (line_cells s d.at) ≡ f → row_fault (kinds_of t.names) (pieces 44 (line_at s d.at)) ≡ f
+        rules_of_lem t k f e = ap (λ (js : List ℕ). row_fault js (pieces 44 (line_at s d.at))) k ∙ e
 
-        pub line_odd : (w.number ≡ 0 → ⊥) → LineRead s ks d (data_refused d w.number (w.at - d.at + 1))
-        line_odd n = line-stopped w.number (w.at - d.at + 1) n (λ t l k.
-            step-refused l t d.rows (line_at s d.at) g.rules y z w.number (w.at - d.at + 1) (rules_of_lem t k _ (fault-number w.number (w.at - d.at + 1) n)))
+        pub line_odd : (b : BrokenRule) → row_fault ks (line_cells s d.at) ≡ breaks b.number b.column → (t : Table) (l : ℕ) → kinds_of t.names ≡ ks
+            → run l (rows t d.rows) (lines_from s d.at) ≡ refused b.number l b.column
+        line_odd b f t l k = line-stopped b.number b.column l t (step-refused l t d.rows (line_at s d.at) g.rules y z b.number b.column (rules_of_lem t k _ f))
 
-        pub line_row : DataHeld d → w.number ≡ 0 → LineRead s ks d (with_row s d (e + 1) w)
-        line_row x n =
-            let key = v.key n in
-            let b = border-few (ltb 0 d.rows && same_key (key_at s d.last) (key_at s w.keys)) in
-            record {
-              ended = λ u. absurd (true≢false (sym u));
-              added = λ u. record {
-                held = record {
-                  clean = refl;
-                  few = omega arith;
-                  profiles = omega (arith, x.profiles, b);
-                  missing = omega (arith, x.missing, v.few);
-                };
-                counted = refl;
-                lines = lines_more s d.at g.room ∙ ap (λ (a : ℕ). line_at s d.at ∷ lines_from s (a + 1)) (sym g.end);
-                on = λ t l k. run-next l t (rows t (d.rows + 1))
-                    (step_row l t d.rows (line_at s d.at) g.rules y z (rules_of_lem t k clean (ap (λ (a : ℕ). as_fault a (w.at - d.at + 1)) n)));
-                missing = ap (λ (a : ℕ). d.missing + a) (v.missing n);
-                profiles = ap (λ (a : Key). d.profiles + border s d a) key;
-                last = key;
-              };
-              inside = λ u. inside-next;
-            }
+        pub line_row : (w : Row) → RowKept s ks d.at w → DataHeld d → (n : ℕ) → n ≡ border s d (key_at s w.keys)
+            → RowAdded s ks d (record { at = e + 1; rows = d.rows + 1; profiles = d.profiles + n; missing = d.missing + w.missing; last = w.keys })
+        line_row w v x n b = record {
+          held = record {
+            few = omega arith;
+            profiles = omega (arith, x.profiles, b, border-few (ltb 0 d.rows && same_key (key_at s d.last) (key_at s w.keys)));
+            missing = omega (arith, x.missing, v.few);
+          };
+          inside = inside-next;
+          counted = refl;
+          lines = lines_more s d.at g.room ∙ ap (λ (a : ℕ). line_at s d.at ∷ lines_from s (a + 1)) (sym g.end);
+          on = λ t l k. run-next l t (rows t (d.rows + 1)) (step_row l t d.rows (line_at s d.at) g.rules y z (rules_of_lem t k clean v.rules));
+          missing = ap (λ (a : ℕ). d.missing + a) v.missing;
+          profiles = ap (λ (a : ℕ). d.profiles + a) (b ∙ ap (border s d) v.key);
+          last = v.key;
+        }
           where
             border-few : (b : Bool) → cond b 0 1 ≤ 1
             border-few true = omega arith
@@ -216,9 +165,9 @@ pub record SoFar (s ks : List ℕ) (i : ℕ) (d : Data) : Type 0 where
   pub profiles : (n : ℕ) → run_count (map (key_of ks) (rows_from s i (d.rows + n))) ≡ d.profiles + borders_after d.rows (key_at s d.last) (map (key_of ks) (rows_from s d.at n))
 
 pub so-far-none : (s ks : List ℕ) (i : ℕ) → i ≤ length s
-    → SoFar s ks i (record { at = i; number = 0; column = 0; done = false; rows = 0; profiles = 0; missing = 0; last = no_keys })
+    → SoFar s ks i (record { at = i; rows = 0; profiles = 0; missing = 0; last = no_keys })
 so-far-none s ks i h = record {
-  held = record { clean = refl; few = omega arith; profiles = omega arith; missing = omega arith };
+  held = record { few = omega arith; profiles = omega arith; missing = omega arith };
   inside = (omega arith, h);
   on = λ t l k. ap (λ (a : ℕ). run a (rows t 0) (lines_from s i)) (omega arith);
   missing = λ n. let e : 0 + n ≡ n = omega arith in ap (λ (a : ℕ). missing_in_rows ks (rows_from s i a)) e ∙ omega arith;
@@ -250,10 +199,10 @@ module _ (s ks : List ℕ) (i : ℕ) (d : Data) (x : SoFar s ks i d) where
         = ap (λ (rs : List (List (List ℕ))). borders_after d.rows (key_at s d.last) (map (key_of ks) rs)) (rows_more n) ∙ borders-row d.rows (key_at s d.last) y ys in
         ap (λ (m : ℕ). run_count (map (key_of ks) (rows_from s i m))) (count-more n) ∙ x.profiles (suc n) ∙ omega (arith, e, a.profiles, borders-more ys)
 
-    pub so-far-row : (d.at < r.at) × (r.at ≤ length s) → SoFar s ks i r
-    so-far-row h = record {
+    pub so-far-row : SoFar s ks i r
+    so-far-row = record {
       held = a.held;
-      inside = (omega (arith, x.inside.0, h.0), h.1);
+      inside = (omega (arith, x.inside.0, a.inside.0), a.inside.1);
       on = λ t l k. x.on t l k ∙ a.on t (l + d.rows) k ∙ ap (λ (m : ℕ). run m (rows t r.rows) (lines_from s r.at)) (omega (arith, a.counted));
       missing = missing-more;
       profiles = profiles-more;
@@ -270,23 +219,18 @@ module _ (s ks : List ℕ) (i : ℕ) (d : Data) (x : SoFar s ks i d) where
       let e : d.rows + 0 ≡ d.rows = omega arith in
       omega (arith, sym (ap (λ (m : ℕ). run_count (map (key_of ks) (rows_from s i m))) e) ∙ x.profiles 0, borders-none d.rows (key_at s d.last))
 
-  pub so-far-ended : (r : Data) → DataEnded s ks d r → (r.number ≡ 0 → (d.at < r.at) × (r.at ≤ length s)) → DataRead s ks i r
-  so-far-ended r a h = record {
-    stop = λ t l k z. x.on t l k ∙ a.stop t (l + d.rows) k z ∙ ap (λ (m : ℕ). refused r.number (l + m) r.column) (sym a.counted);
-    on = λ t l k z. x.on t l k ∙ a.on t (l + d.rows) k z ∙ ap (λ (m : ℕ). run (l + m + 1) (after t m) (lines_from s r.at)) (sym a.counted);
-    inside = λ z. (omega (arith, x.inside.0, (h z).0), (h z).1);
-    few = omega (arith, a.counted, x.held.few);
-    missing = λ z. a.missing ∙ missing-here ∙ ap (λ (m : ℕ). missing_in_rows ks (rows_from s i m)) (sym a.counted);
-    profiles = λ z. a.profiles ∙ profiles-here ∙ ap (λ (m : ℕ). run_count (map (key_of ks) (rows_from s i m))) (sym a.counted);
-  }
+  module _ (l : ℕ) where
+    pub so-far-ended : (q : ℕ) → (d.at < q) × (q ≤ length s)
+        → ((t : Table) → run (l + d.rows) (rows t d.rows) (lines_from s d.at) ≡ run (l + d.rows + 1) (after t d.rows) (lines_from s q))
+        → DataTold s ks (record { at = i; line = l }) (record { at = q; rows = d.rows; profiles = d.profiles; missing = d.missing; last = d.last })
+    so-far-ended q h a = record {
+      on = λ t k. x.on t l k ∙ a t;
+      inside = (omega (arith, x.inside.0, h.0), h.1);
+      few = x.held.few;
+      missing = missing-here;
+      profiles = profiles-here;
+    }
 
-  pub so-far_out : length s ≤ d.at → DataRead s ks i (data_refused d 14 1)
-  unfolding run end_rules last_piece_rules first_of
-  so-far_out h = record {
-    stop = λ t l k z. x.on t l k ∙ ap (run (l + d.rows) (rows t d.rows)) (lines_end s d.at h);
-    on = λ t l k z. absurd (omega arith);
-    inside = λ z. absurd (omega arith);
-    few = x.held.few;
-    missing = λ z. absurd (omega arith);
-    profiles = λ z. absurd (omega arith);
-  }
+    pub so-far_out : length s ≤ d.at → (t : Table) → kinds_of t.names ≡ ks → run l (rows t 0) (lines_from s i) ≡ refused 14 (l + d.rows) 1
+    unfolding run end_rules last_piece_rules first_of
+    so-far_out h t k = x.on t l k ∙ ap (run (l + d.rows) (rows t d.rows)) (lines_end s d.at h)

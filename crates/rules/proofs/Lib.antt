@@ -1,7 +1,9 @@
 pub mod AnswerLaws
 pub mod DataLaws
+pub mod ExitLaws
 pub mod FirstRunLaws
 pub mod FreeLaws
 pub mod HeaderRunLaws
 pub mod LineRunLaws
 pub mod TableLaws
+pub mod TopLaws

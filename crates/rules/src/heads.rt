@@ -2,72 +2,56 @@
 ghost use Rattle.std.specs.Prelude.{◌≡◌, ◌+◌, ◌≤◌, ◌<◌, length, get_or};
 ghost use Rattle.rules.specs.Inner.Heads.{Begun, HeadersRead};
 
-use crate::free::Walk;
+use crate::free::{LineStart, line_due, on_line};
+use format::Refusal;
 use headers::{FirstHeader, first_header, header_line};
 use names::has_station;
-use text::refusals;
+use text::{Span, refusals};
 
-fn headers_refused(line: u64, number: u64, column: u64) -> Walk
-    ensures { (result.line ≡ line) × (result.number ≡ number) × (result.column ≡ column) }
-{
-    Walk {
-        at: 0,
-        line,
-        number,
-        column,
-    }
-}
-
-// The header lines after the first one, h, which starts at `start` and says how many there are: name k stands from starts[k] to ends[k].
-fn more_headers(s: &[u8], start: usize, first: u64, h: FirstHeader) -> Walk
-    requires { Begun s.now start first h }
-    ensures { HeadersRead s.now start first result }
+// The header lines after the first one, h, which is at `from` and says how many there are.
+fn more_headers(s: &[u8], from: LineStart, h: FirstHeader) -> Result<LineStart, Refusal>
+    requires { Begun s.now from h }
+    ensures { HeadersRead s.now from result }
 {
     let said = h.said;
-    let mut starts = [0usize; 64];
-    let mut ends = [0usize; 64];
-    starts[0] = start;
-    ends[0] = h.equals;
+    // An array with a count beside it: the library crates use no heap.
+    let mut places = [Span { start: 0, len: 0 }; 64];
+    places[0] = Span {
+        start: from.at,
+        len: h.equals - from.at,
+    };
     let mut at = h.end + 1;
-    let mut count = 1;
-    while count < said {
-        let line = first + (count as u64);
+    for count in 1..said {
+        let line = from.line + count as u64;
         if s.len() <= at {
-            return headers_refused(line, refusals::LINE_DUE, 1);
+            return Err(line_due(line));
         }
-        let g = header_line(s, at, &starts, &ends, count);
-        if g.number != 0 {
-            return headers_refused(line, g.number, g.column);
-        }
-        starts[count] = at;
-        ends[count] = g.equals;
+        let g = on_line(header_line(s, at, &places[..count]), line)?;
+        places[count] = Span {
+            start: at,
+            len: g.equals - at,
+        };
         at = g.end + 1;
-        count += 1;
     }
-    let line = first + (count as u64);
-    if has_station(s, &starts, &ends, count) {
-        Walk {
-            at,
-            line,
-            number: 0,
-            column: 0,
-        }
-    } else {
-        headers_refused(line - 1, refusals::REQUIRED_NAME_ABSENT, 1)
+    let line = from.line + said as u64;
+    if !has_station(s, &places[..said]) {
+        return Err(Refusal {
+            number: refusals::REQUIRED_NAME_ABSENT,
+            line: line - 1,
+            column: 1,
+        });
     }
+    Ok(LineStart { at, line })
 }
 
-// The header lines from the NUMBER_HEADERS line on, which starts at `start`.
-pub fn read_headers(s: &[u8], start: usize, first: u64) -> Walk
-    requires { (start ≤ length s.now) × (first ≤ start + 2) × ((start < length s.now → get_or s.now start 0 ≡ 35 → ⊥)) }
-    ensures { HeadersRead s.now start first result }
+// The header lines from the NUMBER_HEADERS line on, which is at `from`.
+pub fn read_headers(s: &[u8], from: LineStart) -> Result<LineStart, Refusal>
+    requires { (from.at ≤ length s.now) × (from.line ≤ from.at + 2) × ((from.at < length s.now → get_or s.now from.at 0 ≡ 35 → ⊥)) }
+    ensures { HeadersRead s.now from result }
 {
-    if s.len() <= start {
-        return headers_refused(first, refusals::LINE_DUE, 1);
+    if s.len() <= from.at {
+        return Err(line_due(from.line));
     }
-    let h = first_header(s, start);
-    if h.number != 0 {
-        return headers_refused(first, h.number, h.column);
-    }
-    more_headers(s, start, first, h)
+    let h = on_line(first_header(s, from.at), from.line)?;
+    more_headers(s, from, h)
 }

@@ -7,24 +7,42 @@ ghost use Rattle.format.specs.Answers.{checked_of};
 ghost use Rattle.format.specs.Opened.{opened_of};
 
 use format::{Checked, FileKind, Opened};
-use line_one::BOTTLE;
 
 mod data;
 mod free;
 mod heads;
 mod table;
+mod top;
 
 // Opens a file: checks it, and says where its headers, its names line and its first data line start.
+// A record of its own and no Result: `opened_of` and `checked_of` speak of it, and the C interface hands its numbers on.
 pub fn open_file(file: &[u8]) -> Opened
     ensures { result ≡ opened_of file.now }
 {
-    let v = table::table_of(file);
-    if v.number != 0 {
-        return Opened {
+    match table::table_of(file) {
+        Ok(t) => Opened {
             checked: Checked {
-                number: v.number,
-                line: v.line,
-                column: v.column,
+                number: 0,
+                line: 0,
+                column: 0,
+                kind: t.kind,
+                columns: t.columns as u64,
+                rows: t.rows,
+                profiles: match t.kind {
+                    FileKind::Ctd => 1,
+                    _ => t.profiles,
+                },
+                missing: t.missing,
+            },
+            headers: t.headers,
+            names: t.names,
+            first: t.data,
+        },
+        Err(r) => Opened {
+            checked: Checked {
+                number: r.number,
+                line: r.line,
+                column: r.column,
                 kind: FileKind::Unknown,
                 columns: 0,
                 rows: 0,
@@ -34,39 +52,7 @@ pub fn open_file(file: &[u8]) -> Opened
             headers: 0,
             names: 0,
             first: 0,
-        };
-    }
-    if v.kind == BOTTLE {
-        return Opened {
-            checked: Checked {
-                number: 0,
-                line: 0,
-                column: 0,
-                kind: FileKind::Bottle,
-                columns: v.columns as u64,
-                rows: v.rows,
-                profiles: v.profiles,
-                missing: v.missing,
-            },
-            headers: v.headers,
-            names: v.names,
-            first: v.data,
-        };
-    }
-    Opened {
-        checked: Checked {
-            number: 0,
-            line: 0,
-            column: 0,
-            kind: FileKind::Ctd,
-            columns: v.columns as u64,
-            rows: v.rows,
-            profiles: 1,
-            missing: v.missing,
         },
-        headers: v.headers,
-        names: v.names,
-        first: v.data,
     }
 }
 
@@ -74,6 +60,5 @@ pub fn open_file(file: &[u8]) -> Opened
 pub fn check(file: &[u8]) -> Checked
     ensures { result ≡ checked_of file.now }
 {
-    let o = open_file(file);
-    o.checked
+    open_file(file).checked
 }

@@ -7,11 +7,7 @@ use text::Reading;
 fn number_of(answer: Answer) -> u64 {
     match answer {
         Answer::Applied => 0,
-        Answer::Refused {
-            number,
-            line: _,
-            column: _,
-        } => number,
+        Answer::Refused { number, .. } => number,
     }
 }
 
@@ -37,7 +33,7 @@ pub fn salinity() -> bool {
     let mut refusal = [0u64; 3];
     let file = edited(6, 53, b"  35.1301,2");
     let cell = exchange::cell(&file, 2, 8, &mut refusal);
-    text::same(cell, b"35.1301") & leaves(order(2, 8, 35130100, 4, 2), 0, 6, 53, b"  35.1301,2")
+    (cell == b"35.1301".as_slice()) & leaves(order(2, 8, 35130100, 4, 2), 0, 6, 53, b"  35.1301,2")
 }
 
 pub fn too_long() -> bool {
@@ -45,18 +41,7 @@ pub fn too_long() -> bool {
 }
 
 fn is_missing(reading: Reading) -> bool {
-    match reading {
-        Reading::Missing => true,
-        Reading::Present {
-            millionths: _,
-            value: _,
-        } => false,
-        Reading::Refused {
-            number: _,
-            line: _,
-            column: _,
-        } => false,
-    }
+    matches!(reading, Reading::Missing)
 }
 
 // The text fits, and it reads as missing in its spelling as in the other one.

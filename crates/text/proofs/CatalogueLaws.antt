@@ -10,8 +10,7 @@ use lib.ListN.{length, get_or, drop}
 use lib.Seq.{drop-drop}
 use lib.Dec.{ltb}
 use borrow.Author.Tests.{ltb-true, ltb-false}
-use Rattle.line_bytes.specs.declared.Found.{Found}
-use Rattle.line_bytes.specs.declared.Found.TheVariants.{At, Nowhere}
+use Rattle.std.specs.Prelude.{Option, Some, None}
 use Rattle.line_bytes.specs.Bytes.{equal}
 use Rattle.line_bytes.specs.Cells.{first_piece}
 use Rattle.text.specs.Catalogue.{Listed, listed, base256, insert, ordered, flat, names, kinds, entry_at, entry_name, search_from, look_up, entry_kind, kind_in, IsListed, KindsListed}
@@ -64,9 +63,9 @@ same_place j k h l e false false p q = omega (arith, ltb-false j k p, ltb-false 
 pub names_differ : (j k : ℕ) → j < length names / 16 → k < length names / 16 → entry_at names j ≡ entry_at names k → j ≡ k
 names_differ j k h l e = same_place j k h l (ap (base256 0) e) (ltb j k) (ltb k j) refl refl
 
-abbrev pub is_at : Found → Bool
-is_at (At k) = true
-is_at Nowhere = false
+abbrev pub is_at : Option ℕ → Bool
+is_at (Some k) = true
+is_at None = false
 
 -- ---- each listed name stands in the table, and is found with its kind
 pub listed_stand : map (λ (x : Listed). is_at (look_up names x.name)) listed ≡ map (λ (x : Listed). true) listed
@@ -105,15 +104,15 @@ has_listed (x ∷ xs) n e = go (equal x.name n) refl (has_listed xs n) e
     go true p f e = (x.kind, inl (equal-same x.name n p, refl))
     go false p f e = let w = f e in (w.0, inr w.1)
 
-none_found : (n : List ℕ) → ((kind : ℕ) → IsListed listed n kind → ⊥) → (m k : ℕ) → all_from m k ≡ true → search_from names n m k ≡ Nowhere
+none_found : (n : List ℕ) → ((kind : ℕ) → IsListed listed n kind → ⊥) → (m k : ℕ) → all_from m k ≡ true → search_from names n m k ≡ None
 unfolding search_from all_from
 none_found n other zero k e = refl
 none_found n other (suc m) k e =
     let w = both_true (has listed (entry_name names k)) (all_from m (suc k)) e in
     go (equal (entry_name names k) n) refl w.0 (none_found n other m (suc k) w.1)
   where
-    go : (b : Bool) → equal (entry_name names k) n ≡ b → has listed (entry_name names k) ≡ true → search_from names n m (suc k) ≡ Nowhere
-        → cond b (At k) (search_from names n m (suc k)) ≡ Nowhere
+    go : (b : Bool) → equal (entry_name names k) n ≡ b → has listed (entry_name names k) ≡ true → search_from names n m (suc k) ≡ None
+        → cond b (Some k) (search_from names n m (suc k)) ≡ None
     go true p h r = let w = has_listed listed n (subst (λ (x : List ℕ). has listed x ≡ true) (equal-same (entry_name names k) n p) h) in absurd (other w.0 w.1)
     go false p h r = r
 

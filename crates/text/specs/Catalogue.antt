@@ -1,8 +1,6 @@
 -- Document 01, "The catalogue": the names under their kinds. The table has them padded with zeros to 16 bytes, in rising byte order.
-use Rattle.std.specs.Prelude.{ℕ, zero, suc, ◌+◌, ◌-◌, ◌*◌, ◌/◌, ◌≡◌, ◌⊎◌, List, [], ◌∷◌, ◌++◌, map, cond, length, get_or, take, drop, replicate, ltb}
+use Rattle.std.specs.Prelude.{ℕ, zero, suc, ◌+◌, ◌-◌, ◌*◌, ◌/◌, ◌≡◌, ◌⊎◌, List, [], ◌∷◌, ◌++◌, map, cond, length, get_or, take, drop, replicate, ltb, Option, Some, None}
 use Prim.Native.String.{String}
-use Rattle.line_bytes.specs.declared.Found.{Found}
-use Rattle.line_bytes.specs.declared.Found.TheVariants.{At, Nowhere}
 use Rattle.line_bytes.specs.Bytes.{bytes, equal}
 use Rattle.line_bytes.specs.Cells.{first_piece}
 use Rattle.verdicts.specs.Kinds.{Kind, measured, latitude, longitude, depth, expocode, stnnbr, castno, date, time, free, code_of}
@@ -72,18 +70,18 @@ abbrev pub entry_name : List ℕ → ℕ → List ℕ
 entry_name t k = first_piece 0 (entry_at t k)
 
 -- the first entry from k on, of n, that has the name
-unfoldable pub search_from : List ℕ → List ℕ → ℕ → ℕ → Found
-search_from t name zero k = Nowhere
-search_from t name (suc n) k = cond (equal (entry_name t k) name) (At k) (search_from t name n (suc k))
+unfoldable pub search_from : List ℕ → List ℕ → ℕ → ℕ → Option ℕ
+search_from t name zero k = None
+search_from t name (suc n) k = cond (equal (entry_name t k) name) (Some k) (search_from t name n (suc k))
 
 -- where a table has the name
-unfoldable pub look_up : List ℕ → List ℕ → Found
+unfoldable pub look_up : List ℕ → List ℕ → Option ℕ
 look_up t name = search_from t name (length t / 16) 0
 
 -- the kind of the entry that a search found
-abbrev pub entry_kind : List ℕ → Found → ℕ
-entry_kind ks (At k) = get_or ks k (code_of free)
-entry_kind ks Nowhere = code_of free
+abbrev pub entry_kind : List ℕ → Option ℕ → ℕ
+entry_kind ks (Some k) = get_or ks k (code_of free)
+entry_kind ks None = code_of free
 
 -- the kind of a name by a table: free text where it is not listed
 unfoldable pub kind_in : List ℕ → List ℕ → List ℕ → ℕ

@@ -1,13 +1,14 @@
 // The catalogue: a table of names and the kind of each.
-ghost use Rattle.std.specs.Prelude.{◌≡◌, ◌+◌, ◌*◌, ◌≤◌, length};
+ghost use Rattle.std.specs.Prelude.{◌≡◌, ◌+◌, ◌*◌, ◌≤◌, length, eqb, position};
 ghost use Rattle.line_bytes.specs.Bytes.{equal};
 ghost use Rattle.text.specs.Catalogue.{entry_name};
 
-use line_bytes::kinds;
+use line_bytes::{kinds, same};
 
 // So many bytes has an entry of the table.
 pub const ENTRY: usize = 16;
 
+// Two tables and not one of structs: catalogue_names and catalogue_kinds promise these bytes, and kind_of takes them lent one beside the other.
 // The names, each padded with zeros to 16 bytes, in rising byte order.
 pub const NAMES: [u8; 768] = *b"ALKALI\0\0\0\0\0\0\0\0\0\0\
     BTLNBR\0\0\0\0\0\0\0\0\0\0\
@@ -110,21 +111,19 @@ pub const KINDS: [u8; 48] = [
     kinds::MEASURED, // TRITUM
 ];
 
+// Where an entry's first zero stands.
+fn first_zero(entry: &[u8]) -> Option<usize>
+    ensures { result ≡ position (λ b. eqb b 0) entry.now }
+{
+    entry.iter().position(|b| *b == 0)
+}
+
 // Whether entry k has the name: the bytes before its first zero, and no others.
 pub fn is_entry<'a>(listed: &'a [u8], k: usize, name: &'a [u8]) -> bool
     requires { 16 * k + 16 ≤ length listed.now }
     ensures { result ≡ equal (entry_name listed.now k) name.now }
 {
-    if ENTRY < name.len() {
-        return false;
-    }
-    let a = ENTRY * k;
-    let mut j = 0;
-    while j < name.len() {
-        if (listed[a + j] != name[j]) | (name[j] == 0) {
-            return false;
-        }
-        j += 1;
-    }
-    if j < ENTRY { listed[a + j] == 0 } else { true }
+    let entry = &listed[ENTRY * k..ENTRY * k + ENTRY];
+    let n = first_zero(entry).unwrap_or(ENTRY);
+    same(&entry[..n], name)
 }

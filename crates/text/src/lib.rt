@@ -9,7 +9,7 @@ ghost use Rattle.text.specs.Reading.{reading_at};
 
 pub use cells::{judge, judge_cells, whole};
 pub use line_bytes::{
-    Found, Span, begins_ctd, first_control, first_return, ill_formed, is_name, kinds, limits,
+    Span, begins_ctd, first_control, first_return, ill_formed, is_name, kinds, limits,
     parameter_length, refusals, same, trim_span, trimmed,
 };
 pub use verdicts::{CellsRead, Judged, Keys, last_place, signed_size};
@@ -43,16 +43,10 @@ pub fn catalogue_kinds() -> [u8; 48]
 pub fn kind_of<'a>(listed: &'a [u8], of: &'a [u8], name: &'a [u8]) -> u8
     ensures { result ≡ kind_in listed.now of.now name.now }
 {
-    let n = listed.len() / catalogue::ENTRY;
-    let mut k = 0;
-    while k < n {
+    for k in 0..listed.len() / catalogue::ENTRY {
         if catalogue::is_entry(listed, k, name) {
-            if k < of.len() {
-                return of[k];
-            }
-            return kinds::FREE;
+            return of.get(k).copied().unwrap_or(kinds::FREE);
         }
-        k += 1;
     }
     kinds::FREE
 }

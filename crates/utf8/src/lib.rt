@@ -6,11 +6,10 @@ ghost use Rattle.std.specs.Prelude.{◌≡◌, length};
 ghost use Rattle.utf8.specs.Syntax.{to, within, alternatives, takes, character_in};
 ghost use Rattle.utf8.specs.Rows.{laid, row_in, rows_in};
 
-const ROWS: usize = 9;
-
 const MOST_RANGES: u8 = 4;
 
 // A row for each alternative: its length, then the lowest and the highest byte of each of its ranges. The zeros of a short row are never read.
+// No struct, and no Option below: table and character promise rows of nine bytes and 0 for none (laid, rows_in, character_in), as TakenExactly does.
 const TABLE: [[u8; 9]; 9] = [
     [1, 0x00, 0x7f, 0, 0, 0, 0, 0, 0], // UTF8-1 = %x00-7F
     [2, 0xc2, 0xdf, 0x80, 0xbf, 0, 0, 0, 0], // UTF8-2 = %xC2-DF UTF8-tail
@@ -34,12 +33,10 @@ pub fn table() -> [[u8; 9]; 9]
 pub fn character<'a>(rows: &'a [[u8; 9]; 9], text: &'a [u8]) -> usize
     ensures { result ≡ character_in (rows_in rows.now) text.now }
 {
-    let mut k = 0;
-    while k < ROWS {
-        if takes(&rows[k], text) {
-            return length_of(&rows[k]);
+    for row in rows {
+        if takes(row, text) {
+            return length_of(row);
         }
-        k += 1;
     }
     0
 }
@@ -52,12 +49,10 @@ fn takes<'a>(row: &'a [u8; 9], text: &'a [u8]) -> bool
     if text.len() < n {
         return false;
     }
-    let mut j = 0;
-    while j < n {
+    for j in 0..n {
         if !within(row[2 * j + 1], row[2 * j + 2], text[j]) {
             return false;
         }
-        j += 1;
     }
     true
 }
@@ -66,16 +61,12 @@ fn takes<'a>(row: &'a [u8; 9], text: &'a [u8]) -> bool
 fn length_of(row: &[u8; 9]) -> usize
     ensures { result ≡ length (row_in row.now) }
 {
-    if row[0] < MOST_RANGES {
-        row[0] as usize
-    } else {
-        MOST_RANGES as usize
-    }
+    row[0].min(MOST_RANGES) as usize
 }
 
 // Whether a byte is one of a range.
 fn within(low: u8, high: u8, x: u8) -> bool
     ensures { result ≡ within (to low high) x }
 {
-    (low <= x) & (x <= high)
+    (low..=high).contains(&x)
 }

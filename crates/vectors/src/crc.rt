@@ -1,82 +1,39 @@
-// CRC-32, as in gzip.
-ghost use Rattle.std.specs.Prelude.{◌≤◌};
+// CRC-32, as in gzip, taken half a byte at a time.
 
-fn wide(b: u8) -> u32 {
-    b as u32
+// The remainders of the sixteen half bytes.
+static HALVES: [u32; 16] = [
+    0x00000000, 0x1db71064, 0x3b6e20c8, 0x26d930ac, 0x76dc4190, 0x6b6b51f4, 0x4db26158, 0x5005713c,
+    0xedb88320, 0xf00f9344, 0xd6d6a3e8, 0xcb61b38c, 0x9b64c2b0, 0x86d3d2d4, 0xa00ae278, 0xbdbdf21c,
+];
+
+// The remainder after one half byte more, which is already in its lowest bits.
+fn half(c: u32) -> u32 {
+    (c / 16) ^ HALVES[(c % 16) as usize]
 }
 
-// The remainder of one byte.
-fn entry(byte: u32) -> u32 {
-    let mut c = byte;
-    let mut k: usize = 0;
-    while k < 8 {
-        if c % 2 == 1 {
-            c = (c / 2) ^ 0xedb88320;
-        } else {
-            c = c / 2;
+// The remainder after the bytes so far.
+#[derive(Clone, Copy)]
+pub struct Crc(u32);
+
+impl Crc {
+    pub fn new() -> Crc {
+        Crc(0xffffffff)
+    }
+
+    pub fn bytes(&mut self, s: &[u8]) {
+        for b in s {
+            self.0 = half(half(self.0 ^ (*b as u32)));
         }
-        k += 1;
     }
-    c
-}
 
-// The remainders of all bytes.
-pub fn table() -> [u32; 256] {
-    let mut t = [0u32; 256];
-    let mut byte: u32 = 0;
-    while byte < 256 {
-        t[byte as usize] = entry(byte);
-        byte += 1;
+    // The CRC-32 of the bytes.
+    pub fn value(self) -> u32 {
+        self.0 ^ 0xffffffff
     }
-    t
 }
 
-fn least(a: usize, b: usize) -> usize
-    ensures { result ≤ b }
-{
-    if a < b { a } else { b }
-}
-
-// The remainder before any byte.
-pub const START: u32 = 0xffffffff;
-
-// The remainder after one byte more.
-fn crc_byte(table: &[u32; 256], c: u32, b: u8) -> u32 {
-    let k = ((c ^ wide(b)) % 256) as usize;
-    (c / 256) ^ table[k]
-}
-
-// The remainder after the first n bytes more, or all where there are fewer.
-pub fn crc_more(table: &[u32; 256], from: u32, s: &[u8], n: usize) -> u32 {
-    let end = least(n, s.len());
-    let mut c = from;
-    let mut i = 0;
-    while i < end {
-        c = crc_byte(table, c, s[i]);
-        i += 1;
-    }
-    c
-}
-
-// The remainder after the 8 bytes of a number more, the lowest first.
-pub fn crc_word(table: &[u32; 256], from: u32, word: u64) -> u32 {
-    let mut c = from;
-    let mut left = word;
-    let mut i: usize = 0;
-    while i < 8 {
-        c = crc_byte(table, c, (left % 256) as u8);
-        left = left / 256;
-        i += 1;
-    }
-    c
-}
-
-// The CRC-32 of which this is the remainder.
-pub fn ended(c: u32) -> u32 {
-    c ^ 0xffffffff
-}
-
-// Of the first n bytes, or of all where there are fewer.
-pub fn crc_of(table: &[u32; 256], s: &[u8], n: usize) -> u32 {
-    ended(crc_more(table, START, s, n))
+pub fn crc_of(s: &[u8]) -> u32 {
+    let mut crc = Crc::new();
+    crc.bytes(s);
+    crc.value()
 }

@@ -1,108 +1,59 @@
-// Standard input, read in large pieces: the bytes that are not taken yet stand from place[0] to place[1] of the buffer.
+// Standard input, read in large pieces.
 use std::io;
 use std::io::Read;
+use std::ops::Range;
 
-// The next byte of the input, or that it has ended.
-#[derive(Clone, Copy)]
-enum Next {
-    Byte(u8),
-    End,
+// A reader, the piece that was read last, and which of its bytes are not taken yet. By hand: std's BufReader has its piece on the heap.
+#[derive(Drop)]
+pub struct Input<'a, R: Read> {
+    from: R,
+    buffer: &'a mut [u8],
+    left: Range<usize>,
 }
 
-// Reads the next piece.
-fn refill<R: Read>(
-    input: &mut R,
-    buffer: &mut [u8; 65536],
-    place: &mut [usize; 2],
-) -> io::Result<()> {
-    let got = input.read(buffer)?;
-    place[0] = 0;
-    place[1] = got;
-    Ok(())
-}
-
-fn next_byte<R: Read>(
-    input: &mut R,
-    buffer: &mut [u8; 65536],
-    place: &mut [usize; 2],
-) -> io::Result<Next> {
-    if place[1] <= place[0] {
-        refill(input, buffer, place)?;
-    }
-    let at = place[0];
-    if place[1] <= at {
-        return Ok(Next::End);
-    }
-    if 65536 <= at {
-        return Ok(Next::End);
-    }
-    place[0] = at + 1;
-    Ok(Next::Byte(buffer[at]))
-}
-
-// Reads a line without its line feed, as far as there is room for it; answers its length, 0 at the end of the input.
-pub fn read_head<R: Read>(
-    input: &mut R,
-    buffer: &mut [u8; 65536],
-    place: &mut [usize; 2],
-    head: &mut [u8; 256],
-) -> io::Result<usize> {
-    let mut n = 0;
-    while n < 256 {
-        let Next::Byte(b) = next_byte(input, buffer, place)? else {
-            return Ok(0);
-        };
-        if b == b'\n' {
-            return Ok(n);
+impl<'a, R: Read> Input<'a, R> {
+    pub fn new(from: R, buffer: &'a mut [u8]) -> Input<'a, R> {
+        Input {
+            from,
+            buffer,
+            left: 0..0,
         }
-        head[n] = b;
-        n += 1;
     }
-    Ok(n)
-}
 
-// Passes over so many bytes and a line feed; not all: the input ended before.
-pub fn skip<R: Read>(
-    input: &mut R,
-    buffer: &mut [u8; 65536],
-    place: &mut [usize; 2],
-    length: u64,
-) -> io::Result<bool> {
-    let mut i: u64 = 0;
-    while i < length {
-        let Next::Byte(_) = next_byte(input, buffer, place)? else {
-            return Ok(false);
+    // The next byte, if the input has not ended.
+    fn next_byte(&mut self) -> io::Result<Option<u8>> {
+        if self.left.is_empty() {
+            let got = self.from.read(self.buffer)?;
+            self.left = 0..got;
+        }
+        let Some(at) = self.left.next() else {
+            return Ok(None);
         };
-        i += 1;
+        Ok(self.buffer.get(at).copied())
     }
-    ends_line(input, buffer, place)
-}
 
-fn ends_line<R: Read>(
-    input: &mut R,
-    buffer: &mut [u8; 65536],
-    place: &mut [usize; 2],
-) -> io::Result<bool> {
-    let Next::Byte(b) = next_byte(input, buffer, place)? else {
-        return Ok(false);
-    };
-    Ok(b == b'\n')
-}
-
-// Reads bytes until `to` is full, and a line feed; not all: the input ended before.
-pub fn read_bytes<R: Read>(
-    input: &mut R,
-    buffer: &mut [u8; 65536],
-    place: &mut [usize; 2],
-    to: &mut [u8],
-) -> io::Result<bool> {
-    let mut i = 0;
-    while i < to.len() {
-        let Next::Byte(b) = next_byte(input, buffer, place)? else {
-            return Ok(false);
-        };
-        to[i] = b;
-        i += 1;
+    // Reads a line without its line feed, as far as there is room for it; answers its length, 0 at the end of the input.
+    pub fn read_line(&mut self, line: &mut [u8]) -> io::Result<usize> {
+        for (n, to) in line.iter_mut().enumerate() {
+            match self.next_byte()? {
+                None => return Ok(0),
+                Some(b'\n') => return Ok(n),
+                Some(b) => *to = b,
+            }
+        }
+        Ok(line.len())
     }
-    ends_line(input, buffer, place)
+
+    // Reads the bytes of a block and the line feed after them, as the first of the room where it has so much; not all: the input ended before.
+    pub fn read_block(&mut self, length: usize, room: &mut [u8]) -> io::Result<bool> {
+        for at in 0..length {
+            let Some(b) = self.next_byte()? else {
+                return Ok(false);
+            };
+            if length <= room.len() {
+                room[at] = b;
+            }
+        }
+        Ok(self.next_byte()? == Some(b'\n'))
+    }
 }

@@ -5,8 +5,9 @@
 #![tactic(auto)]
 
 use crate::answers::answer;
-use crate::input::{read_bytes, read_head, skip};
+use crate::input::Input;
 use crate::named::answer_with_name;
+use crate::puts::Page;
 use crate::request::{Lengths, lengths_in};
 use std::io;
 use std::io::{Read, Write};
@@ -24,186 +25,73 @@ mod walks;
 // The most requests that are answered.
 const MOST_REQUESTS: u64 = 1099511627776;
 
-// Room for the longest answer.
-const MOST_ANSWER: usize = 512;
-
-// Writes out what the output holds.
-fn flush<W: Write>(output: &mut W, out: &[u8], at: usize) -> io::Result<()> {
-    if at <= out.len() {
-        output.write_all(&out[..at])?;
-    }
-    Ok(())
-}
-
-// Makes room for an answer where there is none: the output is written out, and begins anew.
-fn make_room<W: Write>(output: &mut W, out: &[u8], at: usize) -> io::Result<usize> {
-    if at < out.len() {
-        if MOST_ANSWER <= out.len() - at {
-            return Ok(at);
-        }
-    }
-    flush(output, out, at)?;
-    Ok(0)
-}
-
-// Takes the bytes of a block and the line feed after them, as the first of `file` where it has room; not all: the input ended before.
-fn take_bytes<R: Read>(
-    input: &mut R,
-    buffer: &mut [u8; 65536],
-    place: &mut [usize; 2],
-    length: u64,
-    file: &mut [u8],
-) -> io::Result<bool> {
-    if (file.len() as u64) < length {
-        return skip(input, buffer, place, length);
-    }
-    let n = length as usize;
-    read_bytes(input, buffer, place, &mut file[..n])
-}
-
-// Takes a second block, behind the first one.
-fn take_name<R: Read>(
-    input: &mut R,
-    buffer: &mut [u8; 65536],
-    place: &mut [usize; 2],
+// Takes the blocks of a request, a second one behind the first; not all: the input ended before.
+fn read_blocks<R: Read>(
+    input: &mut Input<R>,
     lengths: Lengths,
     file: &mut [u8],
 ) -> io::Result<bool> {
-    if (file.len() as u64) < lengths.file {
-        return skip(input, buffer, place, lengths.name);
-    }
-    let n = lengths.file as usize;
-    take_bytes(input, buffer, place, lengths.name, &mut file[n..])
-}
-
-// Takes the blocks of a request.
-fn take_blocks<R: Read>(
-    input: &mut R,
-    buffer: &mut [u8; 65536],
-    place: &mut [usize; 2],
-    lengths: Lengths,
-    file: &mut [u8],
-) -> io::Result<bool> {
-    if !take_bytes(input, buffer, place, lengths.file, file)? {
+    if !input.read_block(lengths.file, file)? {
         return Ok(false);
     }
-    if lengths.named {
-        return take_name(input, buffer, place, lengths, file);
-    }
-    Ok(true)
-}
-
-// Puts the answer to a request with a name, both blocks of which were taken.
-fn put_named(
-    head: &[u8; 256],
-    n: usize,
-    length: u64,
-    file: &[u8],
-    out: &mut [u8],
-    at: usize,
-) -> usize {
-    if file.len() < n {
-        return pages::put(out, at, b"too long\n");
-    }
-    let blocks = &file[n..];
-    if (blocks.len() as u64) < length {
-        return pages::put(out, at, b"too long\n");
-    }
-    let m = length as usize;
-    answer_with_name(head, &file[..n], &blocks[..m], out, at)
+    let Some(name) = lengths.name else {
+        return Ok(true);
+    };
+    let start = lengths.file.min(file.len());
+    input.read_block(name, &mut file[start..])
 }
 
 // Puts the answer to a request whose blocks were taken.
-fn put_line(
-    head: &[u8; 256],
-    lengths: Lengths,
-    file: &mut [u8],
-    page: &mut [u8],
-    table: &[u32; 256],
-    out: &mut [u8],
-    at: usize,
-) -> usize {
-    if (file.len() as u64) < lengths.file {
-        return pages::put(out, at, b"too long\n");
+fn put_answer(line: &[u8], lengths: Lengths, file: &mut [u8], out: &mut Page) {
+    if file.len() < lengths.file {
+        return out.put(b"too long");
     }
-    let n = lengths.file as usize;
-    if lengths.named {
-        return put_named(head, n, lengths.name, file, out, at);
+    let (file, blocks) = file.split_at_mut(lengths.file);
+    let Some(length) = lengths.name else {
+        return answer(line, file, out);
+    };
+    match blocks.get(..length) {
+        Some(name) => answer_with_name(line, file, name, out),
+        None => out.put(b"too long"),
     }
-    answer(head, &mut file[..n], page, table, out, at)
 }
 
-// Reads one request and puts its answer at `at` of the output; not: the input has ended.
+// Reads one request and puts its answer into the output, which is written out where it has no room; not: the input has ended.
 fn serve<R: Read, W: Write>(
-    input: &mut R,
+    input: &mut Input<R>,
     output: &mut W,
-    buffer: &mut [u8; 65536],
-    place: &mut [usize; 2],
     file: &mut [u8],
-    page: &mut [u8],
-    table: &[u32; 256],
-    out: &mut [u8],
-    at: &mut usize,
+    out: &mut Page,
 ) -> io::Result<bool> {
-    let mut head = [0u8; 256];
-    if read_head(input, buffer, place, &mut head)? == 0 {
+    // Zeros stand behind the line, so that a word which no space ends is no request's.
+    let mut line = [0u8; 256];
+    if input.read_line(&mut line)? == 0 {
         return Ok(false);
     }
-    let lengths = lengths_in(&head);
-    if !take_blocks(input, buffer, place, lengths, file)? {
+    let lengths = lengths_in(&line);
+    if !read_blocks(input, lengths, file)? {
         return Ok(false);
     }
-    let from = make_room(output, out, *at)?;
-    *at = put_line(&head, lengths, file, page, table, out, from);
+    if !out.has_room() {
+        output.write_all(out.text())?;
+        out.clear();
+    }
+    put_answer(&line, lengths, file, out);
+    out.put(b"\n");
     Ok(true)
 }
 
-// The same over the program's arrays.
-fn one_request<R: Read, W: Write>(
-    input: &mut R,
-    output: &mut W,
-    buffer: &mut [u8; 65536],
-    place: &mut [usize; 2],
-    file: &mut [u8; 131072],
-    page: &mut [u8; 163840],
-    table: &[u32; 256],
-    out: &mut [u8; 65536],
-    at: &mut usize,
-) -> io::Result<bool> {
-    serve(input, output, buffer, place, file, page, table, out, at)
-}
-
-// Writes out the rest.
-fn finish<W: Write>(output: &mut W, out: &[u8; 65536], at: usize) -> io::Result<()> {
-    flush(output, out, at)
-}
-
 fn main(rt: HostRuntime) -> io::Result<()> {
-    let mut input = rt.reader();
     let mut output = io::writer(&rt);
     let mut buffer = [0u8; 65536];
-    let mut place = [0usize; 2];
+    let mut input = Input::new(rt.reader(), &mut buffer);
     let mut file = [0u8; 131072];
-    let mut page = [0u8; 163840];
-    let mut out = [0u8; 65536];
-    let table = crc::table();
-    let mut at = 0;
-    let mut turns = MOST_REQUESTS;
-    while 0 < turns {
-        if !one_request(
-            &mut input,
-            &mut output,
-            &mut buffer,
-            &mut place,
-            &mut file,
-            &mut page,
-            &table,
-            &mut out,
-            &mut at,
-        )? {
+    let mut room = [0u8; 65536];
+    let mut out = Page::new(&mut room);
+    for _ in 0..MOST_REQUESTS {
+        if !serve(&mut input, &mut output, &mut file, &mut out)? {
             break;
         }
-        turns -= 1;
     }
-    finish(&mut output, &out, at)
+    output.write_all(out.text())
 }

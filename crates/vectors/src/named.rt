@@ -1,30 +1,23 @@
 // The requests with a name: the column of it, and a station value under it.
-use crate::puts::{field, put_place, put_refused};
-use crate::request::{is_station, number_in};
-use pages::put;
+use crate::puts::Page;
+use crate::request::{number_in, word};
 
-fn answer_named<'a>(file: &'a [u8], name: &'a [u8], out: &mut [u8], from: usize) -> usize {
+fn answer_named(file: &[u8], name: &[u8], out: &mut Page) {
     let n = exchange::column_named(file, name);
     if n.number != 0 {
-        return put_refused(out, from, n.number, n.line, n.column);
+        return out.refused(n.number, n.line, n.column);
     }
-    let a = put(out, from, b"column");
-    field(out, a, n.place)
+    out.put(b"column");
+    out.field(n.place);
 }
 
 // The answer to a request on a file and a name.
-pub fn answer_with_name<'a>(
-    head: &[u8; 256],
-    file: &'a [u8],
-    name: &'a [u8],
-    out: &mut [u8],
-    from: usize,
-) -> usize {
-    if is_station(head) {
-        let p = exchange::station_place(file, number_in(head, 1), name);
-        let at = put_place(out, from, b"station", p);
-        return put(out, at, b"\n");
+pub fn answer_with_name(line: &[u8], file: &[u8], name: &[u8], out: &mut Page) {
+    match word(line, 0) {
+        b"station" => {
+            let k = number_in(line, 1);
+            out.place(b"station", exchange::station_place(file, k, name));
+        }
+        _ => answer_named(file, name, out),
     }
-    let at = answer_named(file, name, out, from);
-    put(out, at, b"\n")
 }

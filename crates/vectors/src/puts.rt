@@ -1,101 +1,129 @@
-// Answers in words and numbers: each puts its text at a place of the output and answers where it ends.
+// Answers in words and numbers, put one after another into lent room, as far as that goes.
 use exchange::{CellPlace, Checked, FileKind, Flagged};
-use pages::{put, put_number};
 use text::{Reading, Span};
 
-// A field is a space, then a number.
-pub fn field(out: &mut [u8], from: usize, n: u64) -> usize {
-    let at = put(out, from, b" ");
-    put_number(out, at, n)
+// Room for the longest answer, and for the three of a row.
+pub const MOST_ANSWER: usize = 512;
+
+// The room, and where the next text is put.
+#[derive(Drop)]
+pub struct Page<'a> {
+    room: &'a mut [u8],
+    at: usize,
 }
 
-pub fn signed_field(out: &mut [u8], from: usize, n: i64) -> usize {
-    if n < 0 {
-        let at = put(out, from, b" -");
-        return put_number(out, at, numbers::size_of(n));
+impl<'a> Page<'a> {
+    pub fn new(room: &'a mut [u8]) -> Page<'a> {
+        Page { room, at: 0 }
     }
-    field(out, from, numbers::size_of(n))
-}
 
-// So many hexadecimal digits.
-pub fn hex_field(out: &mut [u8], from: usize, n: u64, width: usize) -> usize {
-    let mut digits = [0u8; 16];
-    let at = put(out, from, b" ");
-    let count = io::hex(n, width, &mut digits);
-    put(out, at, &digits[..count])
-}
-
-pub fn put_refused(out: &mut [u8], from: usize, number: u64, line: u64, column: u64) -> usize {
-    let a = put(out, from, b"refused");
-    let b = field(out, a, number);
-    let c = field(out, b, line);
-    field(out, c, column)
-}
-
-fn put_kind(out: &mut [u8], from: usize, kind: FileKind) -> usize {
-    match kind {
-        FileKind::Bottle => put(out, from, b" BOTTLE"),
-        FileKind::Ctd => put(out, from, b" CTD"),
-        FileKind::Unknown => from,
+    // What was put.
+    pub fn text(&self) -> &[u8] {
+        &self.room[..self.at.min(self.room.len())]
     }
-}
 
-// The kind and the counts of a file that was accepted.
-pub fn put_counts(out: &mut [u8], from: usize, c: Checked) -> usize {
-    let kind = c.kind;
-    let a = put_kind(out, from, kind);
-    let b = field(out, a, c.columns);
-    let d = field(out, b, c.rows);
-    let e = field(out, d, c.profiles);
-    field(out, e, c.missing)
-}
-
-pub fn put_span(out: &mut [u8], from: usize, place: Span) -> usize {
-    let a = field(out, from, place.start as u64);
-    field(out, a, place.len as u64)
-}
-
-// Where a trimmed text stands, after a word; or the refusal.
-pub fn put_place(out: &mut [u8], from: usize, word: &[u8], p: CellPlace) -> usize {
-    if p.number != 0 {
-        return put_refused(out, from, p.number, p.line, p.column);
+    pub fn has_room(&self) -> bool {
+        MOST_ANSWER <= self.room.len().saturating_sub(self.at)
     }
-    let place = p.place;
-    let a = put(out, from, word);
-    put_span(out, a, place)
+
+    pub fn clear(&mut self) {
+        self.at = 0;
+    }
+
+    pub fn put(&mut self, t: &[u8]) {
+        self.at = pages::put(self.room, self.at, t);
+    }
+
+    pub fn number(&mut self, n: u64) {
+        self.at = pages::put_number(self.room, self.at, n);
+    }
+
+    // A field is a space, then a number.
+    pub fn field(&mut self, n: u64) {
+        self.put(b" ");
+        self.number(n);
+    }
+
+    pub fn signed_field(&mut self, n: i64) {
+        self.put(b" ");
+        if n < 0 {
+            self.put(b"-");
+        }
+        self.number(n.unsigned_abs());
+    }
+
+    // So many hexadecimal digits.
+    pub fn hex_field(&mut self, n: u64, width: usize) {
+        let mut digits = [0u8; 16];
+        let count = io::hex(n, width, &mut digits);
+        self.put(b" ");
+        self.put(&digits[..count]);
+    }
+
+    pub fn crc_field(&mut self, crc: u32) {
+        self.hex_field(crc as u64, 8);
+    }
+
+    pub fn refused(&mut self, number: u64, line: u64, column: u64) {
+        self.put(b"refused");
+        self.field(number);
+        self.field(line);
+        self.field(column);
+    }
+
+    // The kind and the counts of a file that was accepted.
+    pub fn counts(&mut self, c: Checked) {
+        match c.kind {
+            FileKind::Bottle => self.put(b" BOTTLE"),
+            FileKind::Ctd => self.put(b" CTD"),
+            FileKind::Unknown => {}
+        }
+        self.field(c.columns);
+        self.field(c.rows);
+        self.field(c.profiles);
+        self.field(c.missing);
+    }
+
+    pub fn span(&mut self, place: Span) {
+        self.field(place.start as u64);
+        self.field(place.len as u64);
+    }
+
+    // Where a trimmed text stands, after a word; or the refusal.
+    pub fn place(&mut self, word: &[u8], p: CellPlace) {
+        if p.number != 0 {
+            return self.refused(p.number, p.line, p.column);
+        }
+        self.put(word);
+        self.span(p.place);
+    }
+
+    pub fn reading(&mut self, r: Reading) {
+        match r {
+            Reading::Present { millionths, value } => {
+                self.put(b"present");
+                self.signed_field(millionths);
+                self.hex_field(bits_of(value), 16);
+            }
+            Reading::Missing => self.put(b"missing"),
+            Reading::Refused {
+                number,
+                line,
+                column,
+            } => self.refused(number, line, column),
+        }
+    }
+
+    pub fn flagged(&mut self, f: Flagged) {
+        if f.number != 0 {
+            return self.refused(f.number, f.line, f.column);
+        }
+        self.put(b"flag");
+        self.field(f.flag);
+    }
 }
 
 // The bits of a double; no reading is a NaN.
 pub fn bits_of(value: f64) -> u64 {
-    if value == value {
-        f64::to_bits(value)
-    } else {
-        0
-    }
-}
-
-fn put_present(out: &mut [u8], from: usize, millionths: i64, value: f64) -> usize {
-    let a = put(out, from, b"present");
-    let b = signed_field(out, a, millionths);
-    hex_field(out, b, bits_of(value), 16)
-}
-
-pub fn put_reading(out: &mut [u8], from: usize, r: Reading) -> usize {
-    match r {
-        Reading::Present { millionths, value } => put_present(out, from, millionths, value),
-        Reading::Missing => put(out, from, b"missing"),
-        Reading::Refused {
-            number,
-            line,
-            column,
-        } => put_refused(out, from, number, line, column),
-    }
-}
-
-pub fn put_flagged(out: &mut [u8], from: usize, f: Flagged) -> usize {
-    if f.number != 0 {
-        return put_refused(out, from, f.number, f.line, f.column);
-    }
-    let a = put(out, from, b"flag");
-    field(out, a, f.flag)
+    if value.is_nan() { 0 } else { value.to_bits() }
 }

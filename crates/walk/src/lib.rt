@@ -44,16 +44,13 @@ pub fn step_at(file: &[u8], cursor: Cursor) -> Cursor
     if (cursor.row == 0) | (file.len() <= cursor.stop) {
         return at_end(cursor);
     }
-    let mut row = cursor.row;
-    let mut column: u64 = 1;
-    if cursor.column < cursor.columns {
-        column = cursor.column + 1;
+    let (row, column) = if cursor.column < cursor.columns {
+        (cursor.row, cursor.column + 1)
+    } else if cursor.row < cursor.rows {
+        (cursor.row + 1, 1)
     } else {
-        if cursor.rows <= cursor.row {
-            return at_end(cursor);
-        }
-        row = cursor.row + 1;
-    }
+        return at_end(cursor);
+    };
     let a = cell_after(file, cursor.stop + 1);
     on_cell(cursor, a, row, column)
 }
@@ -64,11 +61,8 @@ pub fn part_at(file: &[u8], cursor: Cursor) -> &[u8]
 {
     let start = cursor.cell.place.start;
     let len = cursor.cell.place.len;
-    if file.len() < start {
-        return &file[0..0];
-    }
-    if file.len() - start < len {
-        return &file[0..0];
+    if file.len() < start || file.len() - start < len {
+        return &file[..0];
     }
     &file[start..start + len]
 }

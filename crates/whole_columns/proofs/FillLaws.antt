@@ -1,11 +1,11 @@
 -- A table filled row by row.
 use Prim.Native.Nat.{ℕ, zero, suc, ◌+◌, ◌<◌}
 use mathlib.Core.Path.{◌≡◌, refl, sym, ap, ◌∙◌}
-use mathlib.Core.List.{List, [], ◌∷◌}
+use mathlib.Core.List.{List, [], ◌∷◌, ◌++◌}
 use native.Mathlib.Nat.{not-suc-le-zero, le_of_suc-le-suc, add-zero}
 use native.Mathlib.Numerals.{add-one}
 use native.Mathlib.Omega.{arith}
-use lib.ListN.{length, set}
+use lib.ListN.{length, set, take, drop}
 use Rattle.whole_columns.specs.Columns.{filled_from}
 
 pub filled-length : {A : Type 0} (g : ℕ → A) (r n : ℕ) (xs : List A) → length (filled_from g r n xs) ≡ length xs
@@ -36,3 +36,10 @@ pub filled_row : {A : Type 0} (g : ℕ → A) (n : ℕ) (xs ys : List A) (a : A)
 filled_row g n xs ys a h e d =
     let k : n + 1 ≡ 1 + n = omega arith in
     ap (λ (zs : List _). set zs n a) e ∙ ap (λ (b : _). set (filled_from g 1 n xs) n b) (d ∙ ap g k) ∙ filled_more g 1 n xs h ∙ ap (λ (m : ℕ). filled_from g 1 m xs) (sym (add-one n))
+
+-- the rows may be written apart from the entries past them
+pub filled_part : {A : Type 0} (g : ℕ → A) (r n : ℕ) (xs : List A) → filled_from g r n (take n xs) ++ drop n xs ≡ filled_from g r n xs
+unfolding filled_from
+filled_part g r zero xs = refl
+filled_part g r (suc n) [] = refl
+filled_part g r (suc n) (x ∷ xs) = ap (λ (ys : List _). g r ∷ ys) (filled_part g (r + 1) n xs)

@@ -23,9 +23,10 @@ use Rattle.format.specs.ByPlace.{row_start, has_cell, text_of, decimal_step, no_
 use Rattle.format.specs.ReadingNumbers.{reading_case, read_millionths, read_value}
 use Rattle.laws.proofs.OpenedReadLaws.{opened-reads}
 use Rattle.whole_columns.specs.declared.filling.Entry.{Entry}
+use Rattle.whole_columns.specs.declared.opening.Column.{Column}
 use Rattle.whole_columns.specs.Columns.{filled_from}
 use Rattle.whole_columns.specs.Inner.Columns.{Stands, entry_for}
-use Rattle.whole_columns.proofs.FillLaws.{filled-length, filled_none, filled_row}
+use Rattle.whole_columns.proofs.FillLaws.{filled_none, filled_row}
 
 -- ---- a reading as the entries of three tables
 module _ (r : Reading) where
@@ -43,22 +44,22 @@ pub record Reached (f : List ℕ) (n at k : ℕ) : Type 0 where
   pub few : k ≤ n
   pub place : at ≡ row_start f (k + 1)
 
-module _ {f : List ℕ} {i n c kind : ℕ} (t : Stands f i n c kind) where
-  pub reached-first : Reached f n i 0
+module _ {f : List ℕ} {x : Column} (t : Stands f x) where
+  pub reached-first : Reached f x.rows x.first 0
   reached-first = record { few = omega arith; place = t.start }
 
-  module _ {at k : ℕ} (w : Reached f n at k) (h : k < n) where
-    decimal-here : decimal_step f at c kind ≡ record { reading = reading_for f (k + 1) c; next = row_start f (k + 1 + 1) }
+  module _ {at k : ℕ} (w : Reached f x.rows at k) (h : k < x.rows) where
+    decimal-here : decimal_step f at x.column x.kind ≡ record { reading = reading_for f (k + 1) x.column; next = row_start f (k + 1 + 1) }
     decimal-here =
-        ap (λ (p : ℕ). decimal_step f p c kind) w.place ∙ ap (decimal_step f (row_start f (k + 1)) c) t.kind
-        ∙ opened-reads.decimal_step_lem f (k + 1) c (omega arith) (omega (arith, h, t.rows))
+        ap (λ (p : ℕ). decimal_step f p x.column x.kind) w.place ∙ ap (decimal_step f (row_start f (k + 1)) x.column) t.kind
+        ∙ opened-reads.decimal_step_lem f (k + 1) x.column (omega arith) (omega (arith, h, t.rows))
 
-    flag-here : flag_step f at c kind ≡ record { flagged = flagged_of f (k + 1) c; next = row_start f (k + 1 + 1) }
+    flag-here : flag_step f at x.column x.kind ≡ record { flagged = flagged_of f (k + 1) x.column; next = row_start f (k + 1 + 1) }
     flag-here =
-        ap (λ (p : ℕ). flag_step f p c kind) w.place ∙ ap (flag_step f (row_start f (k + 1)) c) t.kind
-        ∙ opened-reads.flag-step f (k + 1) c (omega arith) (omega (arith, h, t.rows))
+        ap (λ (p : ℕ). flag_step f p x.column x.kind) w.place ∙ ap (flag_step f (row_start f (k + 1)) x.column) t.kind
+        ∙ opened-reads.flag-step f (k + 1) x.column (omega arith) (omega (arith, h, t.rows))
 
-    reached-next : (p : ℕ) → p ≡ row_start f (k + 1 + 1) → Reached f n p (k + 1)
+    reached-next : (p : ℕ) → p ≡ row_start f (k + 1 + 1) → Reached f x.rows p (k + 1)
     reached-next p e = record { few = omega (arith, h); place = e }
 
 -- ---- the decimals: the first k entries of each table are written
@@ -77,42 +78,33 @@ pub record Filling (f : List ℕ) (n c : ℕ) (cs₀ : List ℕ) (ms₀ : List �
   pub millionths : ms ≡ filled_from (row_millionths f c) 1 k ms₀
   pub values : vs ≡ filled_from (row_value f c) 1 k vs₀
 
-module _ {f : List ℕ} {i n c kind : ℕ} (t : Stands f i n c kind) {cs₀ : List ℕ} {ms₀ : List ℤ} {vs₀ : List Float} (room : (n ≤ length cs₀) × (n ≤ length ms₀) × (n ≤ length vs₀)) where
-  pub fill_start : Filling f n c cs₀ ms₀ vs₀ cs₀ ms₀ vs₀ i 0
+module _ {f : List ℕ} {x : Column} (t : Stands f x) {cs₀ : List ℕ} {ms₀ : List ℤ} {vs₀ : List Float} (room : (x.rows ≤ length cs₀) × (x.rows ≤ length ms₀) × (x.rows ≤ length vs₀)) where
+  pub fill_start : Filling f x.rows x.column cs₀ ms₀ vs₀ cs₀ ms₀ vs₀ x.first 0
   fill_start = record {
     reached = reached-first t;
-    cases = filled_none (row_case f c) cs₀;
-    millionths = filled_none (row_millionths f c) ms₀;
-    values = filled_none (row_value f c) vs₀;
+    cases = filled_none (row_case f x.column) cs₀;
+    millionths = filled_none (row_millionths f x.column) ms₀;
+    values = filled_none (row_value f x.column) vs₀;
   }
 
-  module _ {cs : List ℕ} {ms : List ℤ} {vs : List Float} {at k : ℕ} (w : Filling f n c cs₀ ms₀ vs₀ cs ms vs at k) where
-    pub cases-long : length cs ≡ length cs₀
-    cases-long = ap length w.cases ∙ filled-length (row_case f c) 1 k cs₀
-
-    pub millionths-long : length ms ≡ length ms₀
-    millionths-long = ap length w.millionths ∙ filled-length (row_millionths f c) 1 k ms₀
-
-    pub values-long : length vs ≡ length vs₀
-    values-long = ap length w.values ∙ filled-length (row_value f c) 1 k vs₀
-
-    pub fill_turn : k < n → (s : DecimalStep) → s ≡ decimal_step f at c kind → (x : Entry) → x ≡ entry_for s.reading → (m : ℤ) → m ≡ x.millionths
-        → Filling f n c cs₀ ms₀ vs₀ (set cs k x.case) (set ms k m) (set vs k x.value) s.next (k + 1)
-    fill_turn h s es x ex m em =
+  module _ {cs : List ℕ} {ms : List ℤ} {vs : List Float} {at k : ℕ} (w : Filling f x.rows x.column cs₀ ms₀ vs₀ cs ms vs at k) where
+    pub fill_turn : k < x.rows → (s : DecimalStep) → s ≡ decimal_step f at x.column x.kind → (y : Entry) → y ≡ entry_for s.reading → (m : ℤ) → m ≡ y.millionths
+        → Filling f x.rows x.column cs₀ ms₀ vs₀ (set cs k y.case) (set ms k m) (set vs k y.value) s.next (k + 1)
+    fill_turn h s es y ey m em =
         let step = es ∙ decimal-here t w.reached h in
-        let entry : x ≡ entry_for (reading_for f (k + 1) c) = ex ∙ ap (λ (y : DecimalStep). entry_for y.reading) step in
+        let entry : y ≡ entry_for (reading_for f (k + 1) x.column) = ey ∙ ap (λ (z : DecimalStep). entry_for z.reading) step in
         record {
-          reached = reached-next t w.reached h s.next (ap (λ (y : DecimalStep). y.next) step);
-          cases = filled_row (row_case f c) k cs₀ cs x.case (omega (arith, h, room.0)) w.cases (ap (λ (y : Entry). y.case) entry);
-          millionths = filled_row (row_millionths f c) k ms₀ ms m (omega (arith, h, room.1)) w.millionths (em ∙ ap (λ (y : Entry). y.millionths) entry);
-          values = filled_row (row_value f c) k vs₀ vs x.value (omega (arith, h, room.2)) w.values (ap (λ (y : Entry). y.value) entry);
+          reached = reached-next t w.reached h s.next (ap (λ (z : DecimalStep). z.next) step);
+          cases = filled_row (row_case f x.column) k cs₀ cs y.case (omega (arith, h, room.0)) w.cases (ap (λ (z : Entry). z.case) entry);
+          millionths = filled_row (row_millionths f x.column) k ms₀ ms m (omega (arith, h, room.1)) w.millionths (em ∙ ap (λ (z : Entry). z.millionths) entry);
+          values = filled_row (row_value f x.column) k vs₀ vs y.value (omega (arith, h, room.2)) w.values (ap (λ (z : Entry). z.value) entry);
         }
 
-    pub fill_end : n ≤ k → (cs ≡ filled_from (row_case f c) 1 n cs₀) × ((ms ≡ filled_from (row_millionths f c) 1 n ms₀) × (vs ≡ filled_from (row_value f c) 1 n vs₀))
+    pub fill_end : x.rows ≤ k → (cs ≡ filled_from (row_case f x.column) 1 x.rows cs₀) × ((ms ≡ filled_from (row_millionths f x.column) 1 x.rows ms₀) × (vs ≡ filled_from (row_value f x.column) 1 x.rows vs₀))
     fill_end h =
-        let e : k ≡ n = omega (arith, h, w.reached.few) in (
-          w.cases ∙ ap (λ (m : ℕ). filled_from (row_case f c) 1 m cs₀) e,
-          (w.millionths ∙ ap (λ (m : ℕ). filled_from (row_millionths f c) 1 m ms₀) e, w.values ∙ ap (λ (m : ℕ). filled_from (row_value f c) 1 m vs₀) e),
+        let e : k ≡ x.rows = omega (arith, h, w.reached.few) in (
+          w.cases ∙ ap (λ (m : ℕ). filled_from (row_case f x.column) 1 m cs₀) e,
+          (w.millionths ∙ ap (λ (m : ℕ). filled_from (row_millionths f x.column) 1 m ms₀) e, w.values ∙ ap (λ (m : ℕ). filled_from (row_value f x.column) 1 m vs₀) e),
         )
 
 -- ---- the flags
@@ -154,21 +146,18 @@ pub record Flagging (f : List ℕ) (n c : ℕ) (fs₀ fs : List ℕ) (at k : ℕ
   pub reached : Reached f n at k
   pub flags : fs ≡ filled_from (row_flag f c) 1 k fs₀
 
-module _ {f : List ℕ} {i n c kind : ℕ} (t : Stands f i n c kind) {fs₀ : List ℕ} (room : n ≤ length fs₀) where
-  pub flag-start : Flagging f n c fs₀ fs₀ i 0
-  flag-start = record { reached = reached-first t; flags = filled_none (row_flag f c) fs₀ }
+module _ {f : List ℕ} {x : Column} (t : Stands f x) {fs₀ : List ℕ} (room : x.rows ≤ length fs₀) where
+  pub flag-start : Flagging f x.rows x.column fs₀ fs₀ x.first 0
+  flag-start = record { reached = reached-first t; flags = filled_none (row_flag f x.column) fs₀ }
 
-  module _ {fs : List ℕ} {at k : ℕ} (w : Flagging f n c fs₀ fs at k) where
-    pub flags_long : length fs ≡ length fs₀
-    flags_long = ap length w.flags ∙ filled-length (row_flag f c) 1 k fs₀
-
-    pub flag_turn : k < n → (s : FlagStep) → s ≡ flag_step f at c kind → Flagging f n c fs₀ (set fs k s.flagged.flag) s.next (k + 1)
+  module _ {fs : List ℕ} {at k : ℕ} (w : Flagging f x.rows x.column fs₀ fs at k) where
+    pub flag_turn : k < x.rows → (s : FlagStep) → s ≡ flag_step f at x.column x.kind → Flagging f x.rows x.column fs₀ (set fs k s.flagged.flag) s.next (k + 1)
     flag_turn h s es =
         let step = es ∙ flag-here t w.reached h in
         record {
           reached = reached-next t w.reached h s.next (ap (λ (y : FlagStep). y.next) step);
-          flags = filled_row (row_flag f c) k fs₀ fs s.flagged.flag (omega (arith, h, room)) w.flags (ap (λ (y : FlagStep). y.flagged.flag) step);
+          flags = filled_row (row_flag f x.column) k fs₀ fs s.flagged.flag (omega (arith, h, room)) w.flags (ap (λ (y : FlagStep). y.flagged.flag) step);
         }
 
-    pub flag-end : n ≤ k → fs ≡ filled_from (row_flag f c) 1 n fs₀
-    flag-end h = let e : k ≡ n = omega (arith, h, w.reached.few) in w.flags ∙ ap (λ (m : ℕ). filled_from (row_flag f c) 1 m fs₀) e
+    pub flag-end : x.rows ≤ k → fs ≡ filled_from (row_flag f x.column) 1 x.rows fs₀
+    flag-end h = let e : k ≡ x.rows = omega (arith, h, w.reached.few) in w.flags ∙ ap (λ (m : ℕ). filled_from (row_flag f x.column) 1 m fs₀) e

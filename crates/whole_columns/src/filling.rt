@@ -5,6 +5,7 @@ ghost use Rattle.format.specs.ReadingNumbers.{reading_case, read_millionths, rea
 ghost use Rattle.whole_columns.specs.Columns.{filled_from};
 ghost use Rattle.whole_columns.specs.Inner.Columns.{Stands, entry_for};
 
+use crate::opening::Column;
 use crate::{MISSING, PRESENT, REFUSED};
 use text::Reading;
 
@@ -30,11 +31,7 @@ fn entry_for(r: Reading) -> Entry
             millionths: 0,
             value: 0.0,
         },
-        Reading::Refused {
-            number: _,
-            line: _,
-            column: _,
-        } => Entry {
+        Reading::Refused { .. } => Entry {
             case: REFUSED,
             millionths: 0,
             value: 0.0,
@@ -42,50 +39,42 @@ fn entry_for(r: Reading) -> Entry
     }
 }
 
-// The decimals of n rows, the first of which starts at `first`.
+// The decimals of a column's rows.
 pub fn fill_values(
     file: &[u8],
-    first: usize,
-    n: usize,
-    column: u64,
-    kind: u8,
+    found: Column,
     cases: &mut [u8],
     millionths: &mut [i64],
     values: &mut [f64],
 )
-    requires stands { Stands file.now first n column kind }
-    requires n_in_bounds { (n ≤ length cases.old) × (n ≤ length millionths.old) × (n ≤ length values.old) }
-    ensures cases_after { cases.new ≡ filled_from (λ i. reading_case (reading_for file.now i column)) 1 n cases.old }
-    ensures millionths_after { millionths.new ≡ filled_from (λ i. read_millionths (reading_for file.now i column)) 1 n millionths.old }
-    ensures values_after { values.new ≡ filled_from (λ i. read_value (reading_for file.now i column)) 1 n values.old }
+    requires stands { Stands file.now found }
+    requires rows_in_bounds { (found.rows ≤ length cases.old) × (found.rows ≤ length millionths.old) × (found.rows ≤ length values.old) }
+    ensures cases_after { cases.new ≡ filled_from (λ i. reading_case (reading_for file.now i found.column)) 1 found.rows cases.old }
+    ensures millionths_after { millionths.new ≡ filled_from (λ i. read_millionths (reading_for file.now i found.column)) 1 found.rows millionths.old }
+    ensures values_after { values.new ≡ filled_from (λ i. read_value (reading_for file.now i found.column)) 1 found.rows values.old }
 {
-    let mut at = first;
-    let mut k = 0;
-    while k < n {
-        let d = opened::decimal_step(file, at, column, kind);
-        let reading = d.reading;
-        let x = entry_for(reading);
-        let m = x.millionths;
+    let mut at = found.first;
+    // By index: of what a loop over a zip of three iter_mut wrote, the proof knows nothing.
+    for k in 0..found.rows {
+        let d = opened::decimal_step(file, at, found.column, found.kind);
+        let x = entry_for(d.reading);
         cases[k] = x.case;
-        millionths[k] = m;
+        millionths[k] = x.millionths;
         values[k] = x.value;
         at = d.next;
-        k += 1;
     }
 }
 
-// The flags of n rows in the same way; a flag is at most 9.
-pub fn fill_flags(file: &[u8], first: usize, n: usize, column: u64, kind: u8, flags: &mut [u8])
-    requires stands { Stands file.now first n column kind }
-    requires n_in_bounds { n ≤ length flags.old }
-    ensures { flags.new ≡ filled_from (λ i. (flagged_of file.now i column).flag) 1 n flags.old }
+// The flags in the same way; a flag is at most 9. A loop for both calls would take the step and the writes as closures, and be no shorter.
+pub fn fill_flags(file: &[u8], found: Column, flags: &mut [u8])
+    requires stands { Stands file.now found }
+    requires rows_in_bounds { found.rows ≤ length flags.old }
+    ensures { flags.new ≡ filled_from (λ i. (flagged_of file.now i found.column).flag) 1 found.rows flags.old }
 {
-    let mut at = first;
-    let mut j = 0;
-    while j < n {
-        let f = opened::flag_step(file, at, column, kind);
-        flags[j] = f.flagged.flag as u8;
+    let mut at = found.first;
+    for flag in flags[..found.rows].iter_mut() {
+        let f = opened::flag_step(file, at, found.column, found.kind);
+        *flag = f.flagged.flag as u8;
         at = f.next;
-        j += 1;
     }
 }

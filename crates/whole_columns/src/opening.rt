@@ -1,61 +1,79 @@
 // A column found in a file that is checked first.
 ghost use Rattle.std.specs.Prelude.{◌≡◌};
-ghost use Rattle.whole_columns.specs.Columns.{no_column};
-ghost use Rattle.whole_columns.specs.Inner.Columns.{Found};
+ghost use Rattle.whole_columns.specs.Inner.Columns.{Found, is_read};
 
-use crate::ColumnRead;
-use text::refusals;
+use format::Refusal;
+use text::{kinds, refusals};
 
-// The call's answer; where it is no refusal, the column's kind and where the first row starts.
+// What the rows of a column are read as.
+#[derive(Clone, Copy)]
+pub enum ReadAs {
+    Decimals,
+    Flags,
+}
+
+// A column, counted from 1, and its kind, a byte since it is handed on to calls that are defined for any; its rows, the first of which starts at `first`.
 #[derive(Clone, Copy)]
 pub struct Column {
-    pub answer: ColumnRead,
+    pub column: u64,
     pub kind: u8,
+    pub rows: usize,
     pub first: usize,
 }
 
-// The column, which is to be of one of the kinds from `least` to `most`, with tables that have room for so many rows.
-pub fn open_column(file: &[u8], column: u64, least: u8, most: u8, room: usize) -> Column
-    ensures { Found file.now column least most room result }
+// The column, where it can be read so, with tables that have room for so many rows.
+pub fn open_column(
+    file: &[u8],
+    column: u64,
+    read_as: ReadAs,
+    room: usize,
+) -> Result<Column, Refusal>
+    ensures { Found file.now column read_as room result }
 {
     let o = rules::open_file(file);
     let c = o.checked;
     if c.number != 0 {
-        return no_column(c.number, c.line, c.column);
+        return Err(Refusal {
+            number: c.number,
+            line: c.line,
+            column: c.column,
+        });
     }
     if (column < 1) | (c.columns < column) {
-        return no_column(refusals::NO_SUCH_PLACE, 0, 0);
+        return Err(unread(refusals::NO_SUCH_PLACE));
     }
     let kind = columns::kind_in(file, o.names, column);
-    if (kind < least) | (most < kind) {
-        return no_column(refusals::COLUMN_OF_OTHER_KIND, 0, 0);
+    if !is_read(read_as, kind) {
+        return Err(unread(refusals::COLUMN_OF_OTHER_KIND));
     }
     if (room as u64) < c.rows {
-        return no_column(refusals::TABLE_TOO_SHORT, 0, 0);
+        return Err(unread(refusals::TABLE_TOO_SHORT));
     }
-    Column {
-        answer: ColumnRead {
-            number: 0,
-            line: 0,
-            column: 0,
-            rows: c.rows,
-        },
+    Ok(Column {
+        column,
         kind,
+        rows: c.rows as usize,
         first: o.first,
+    })
+}
+
+// Whether columns of a kind are read so.
+fn is_read(read_as: ReadAs, kind: u8) -> bool
+    ensures { result ≡ is_read read_as kind }
+{
+    match read_as {
+        ReadAs::Decimals => kind <= kinds::DEPTH,
+        ReadAs::Flags => matches!(kind, kinds::FLAG | kinds::CTD_FLAG),
     }
 }
 
-fn no_column(number: u64, line: u64, column: u64) -> Column
-    ensures { result.answer ≡ no_column number line column }
+// A refusal that shows no line and no column.
+fn unread(number: u64) -> Refusal
+    ensures { (result.number ≡ number) × (result.line ≡ 0) × (result.column ≡ 0) }
 {
-    Column {
-        answer: ColumnRead {
-            number,
-            line,
-            column,
-            rows: 0,
-        },
-        kind: 0,
-        first: 0,
+    Refusal {
+        number,
+        line: 0,
+        column: 0,
     }
 }

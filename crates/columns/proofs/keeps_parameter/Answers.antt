@@ -1,6 +1,7 @@
 -- A parameter is one of the names and no flag column's.
+use mathlib.Core.Path.{ap, ◌∙◌}
 use native.Mathlib.Omega.{arith}
-use Rattle.format.proofs.NameLaws.{names-length}
+use Rattle.std.specs.Prelude.{is_some}
 use Rattle.columns.proofs.ColumnLaws.{parameter_taken, keeps_plain, keeps-flag, keeps_placed}
 use Rattle.columns.proofs.keeps_parameter.Goals as goal
 
@@ -16,6 +17,4 @@ returns-then-parameter_length-gt0 c =
 
 pub returns : goal.returns
 returns c =
-    let a = c.args in
-    keeps_placed _ _ c.parameter_length-p.ensures _ c.if-p-eq0.false _ c.parameter_length.ensures (omega arith) _ _
-    (names-length a.s.now a.n a.starts.now a.ends.now c.requires.0 c.requires.1) c.place_of.ensures
+    c.is_some.ensures ∙ ap is_some c.place_of.ensures ∙ keeps_placed _ _ c.parameter_length-p.ensures _ c.if-p-eq0.false _ c.parameter_length.ensures (omega arith)

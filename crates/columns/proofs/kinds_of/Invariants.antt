@@ -1,11 +1,7 @@
 -- The columns passed have their kinds, and rule 12 goes on from the present name.
-use Prim.Native.Nat.{◌-◌}
 use Rattle.line_bytes.specs.Cells.{pieces, line_at}
 use Rattle.columns.proofs.ColumnLaws.{Kinded}
 use Rattle.columns.proofs.kinds_of.Given as goal
 
 abbrev pub invariant-loop-k : goal.invariant-loop-k
 invariant-loop-k l = Kinded (pieces 44 (line_at l.s l.at)) l.k l.kinds
-
-abbrev pub decreases-loop-k : goal.decreases-loop-k
-decreases-loop-k l = l.n - l.k

@@ -1,17 +1,18 @@
 -- The words of the contracts of the functions that decide a correction.
-use Rattle.std.specs.Prelude.{ℕ, ◌≡◌, List, [], ◌∷◌, cond, not, length, ltb}
+use Rattle.std.specs.Prelude.{ℕ, ◌≡◌, List, [], ◌∷◌, cond, not, length, ltb, Option, Some, None, Result, Ok, Err}
 use Rattle.format.specs.declared.Located.{Located}
+use Rattle.format.specs.declared.Refusal.{Refusal}
 use Rattle.numbers.specs.Texts.{number_text}
 use Rattle.orders.specs.declared.Order.{Order}
 use Rattle.orders.specs.declared.Answer.TheVariants.{Applied, Refused}
-use Rattle.correction.specs.declared.deciding.Decision.{Decision}
+use Rattle.correction.specs.declared.writing.CellPlaces.{CellPlaces}
 use Rattle.orders.specs.Corrections.{bad_number, wrong_flag, Test, test, answer_of, filled, corrected_of}
 use Rattle.correction.specs.Inner.Writing.{Writes, fills_at}
 
--- the number of the first test that holds, 0 where none does
-unfoldable pub first_number : List Test → ℕ
-first_number [] = 0
-first_number (x ∷ xs) = cond x.holds x.number (first_number xs)
+-- the number of the first test that holds
+unfoldable pub first_broken : List Test → Option ℕ
+first_broken [] = None
+first_broken (x ∷ xs) = cond x.holds (Some x.number) (first_broken xs)
 
 -- the tests from 22 on, by what is known of the cells of a measurement that is there
 abbrev pub tests_at : Located → Order → List Test
@@ -22,15 +23,13 @@ tests_at x o =
     ∷ test 25 (ltb x.value.len (length (number_text o.millionths o.decimals)))
     ∷ []
 
--- the correction o of f is applied, and filling the cells at the places of d makes it
-pub record Applies (f : List ℕ) (o : Order) (d : Decision) : Type 0 where
+-- the correction o of f is applied, and filling the cells at these places makes it
+pub record Applies (f : List ℕ) (o : Order) (p : CellPlaces) : Type 0 where
   pub answer : answer_of f o ≡ Applied
-  pub line : d.line ≡ 0
-  pub column : d.column ≡ 0
-  pub writes : Writes f d.places o
-  pub fills : filled (fills_at d.places o) f ≡ corrected_of f o
+  pub writes : Writes f p o
+  pub fills : filled (fills_at p o) f ≡ corrected_of f o
 
--- d says what the correction o of f is answered: applied where its number is 0, else refused
-pub record Decides (f : List ℕ) (o : Order) (d : Decision) : Type 0 where
-  pub refused : (d.number ≡ 0 → ⊥) → answer_of f o ≡ Refused d.number d.line d.column
-  pub applied : d.number ≡ 0 → Applies f o d
+-- what the correction o of f is answered: applied, by the places of its cells, or refused
+abbrev pub Decides : List ℕ → Order → Result CellPlaces Refusal → Type 0
+Decides f o (Ok p) = Applies f o p
+Decides f o (Err e) = answer_of f o ≡ Refused e.number e.line e.column

@@ -1,8 +1,8 @@
 -- The words of the contracts of a line's reading: where it starts and ends, and its rules 1 to 5; no promise of a public call cites them.
-use Rattle.std.specs.Prelude.{ℕ, ◌+◌, ◌-◌, ◌<◌, ◌≡◌, List, Bool, cond, length, drop, ltb}
+use Rattle.std.specs.Prelude.{ℕ, ◌+◌, ◌-◌, ◌<◌, ◌≡◌, List, Bool, cond, length, drop, ltb, Result, Ok, Err}
 use Rattle.line_bytes.specs.Bytes.{line_feed}
 use Rattle.line_bytes.specs.Cells.{line_at, pieces}
-use Rattle.format.specs.declared.Line.{Line}
+use Rattle.format.specs.declared.BrokenRule.{BrokenRule}
 use Rattle.format.specs.Faults.{Fault, clean, breaks}
 use Rattle.format.specs.Inner.Faults.{line_fault, unended_fault}
 
@@ -18,12 +18,12 @@ StartsAt s l i = lines_from s i ≡ drop (l - 1) (pieces line_feed s)
 unfoldable pub line_fault_at : Bool → List ℕ → ℕ → Fault
 line_fault_at control s i = cond (ltb (i + length (line_at s i)) (length s)) (line_fault control (line_at s i)) (unended_fault (line_at s i))
 
--- the code's line: its line feed at e, or the broken rule
-abbrev pub line_for : Fault → ℕ → Line
-line_for clean e = record { end = e; number = 0; column = 0 }
-line_for (breaks n c) e = record { end = 0; number = n; column = c }
+-- the code's line: where its line feed stands, or the broken rule
+abbrev pub line_for : Fault → ℕ → Result ℕ BrokenRule
+line_for clean e = Ok e
+line_for (breaks n c) e = Err (record { number = n; column = c })
 
-unfoldable pub line_of : Bool → List ℕ → ℕ → Line
+unfoldable pub line_of : Bool → List ℕ → ℕ → Result ℕ BrokenRule
 line_of control s i = line_for (line_fault_at control s i) (i + length (line_at s i))
 
 -- the line that goes on at i has its line feed at e

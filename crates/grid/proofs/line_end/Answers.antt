@@ -1,7 +1,7 @@
--- The loop's invariant: the line that goes on at p ends where that at i does.
 use mathlib.Core.Path.{sym, ◌∙◌}
 use native.Mathlib.Omega.{arith}
-use Rattle.format.proofs.GridWalkLaws.{line-stop, line_on, line-none}
+use Rattle.format.proofs.GridWalkLaws.{line-none}
+use Rattle.grid.proofs.ByteLaws.{line-found}
 use Rattle.grid.proofs.line_end.Goals as goal
 
 pub returns-then-s-i : goal.returns-then-s-i
@@ -13,14 +13,7 @@ past_plain-wide-requires c = (omega arith, omega arith)
 pub past_plain-p-requires : goal.past_plain-p-requires
 past_plain-p-requires c = (c.past_plain-wide.ensures.0, omega arith)
 
-pub loop-p-init : goal.loop-p-init
-loop-p-init c = (c.past_plain-p.ensures.0, c.past_plain-wide.ensures.1 ∙ c.past_plain-p.ensures.1)
-
-pub returns-then-s-p-eq10 : goal.returns-then-s-p-eq10
-returns-then-s-p-eq10 c = sym (c.loop-p.invariant.1 ∙ line-stop _ _ (omega arith) c.if-s-p-eq10.true)
-
-pub loop-p-preserved : goal.loop-p-preserved
-loop-p-preserved c = (omega arith, c.loop-p.invariant.1 ∙ line_on _ _ (omega arith) c.if-s-p-eq10.false)
-
 pub returns : goal.returns
-returns c = sym (c.loop-p.invariant.1 ∙ line-none _ _ c.loop-p-test.false)
+returns c =
+    line-found _ _ _ _ c.unwrap_or.ensures c.first_feed.ensures
+    ∙ sym (c.past_plain-wide.ensures.1 ∙ c.past_plain-p.ensures.1)

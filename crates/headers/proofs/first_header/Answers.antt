@@ -1,19 +1,19 @@
+use Rattle.std.proofs.Common.{rules}
+use mathlib.Core.Path.{◌≡◌, sym, ◌∙◌}
+use Rattle.std.specs.Prelude.{Err}
 use Rattle.headers.proofs.HeaderLaws.{named-read, first-refused, first-named, first-none, first_good}
 use Rattle.headers.proofs.first_header.Goals as goal
 
-pub returns-then-h-ne0 : goal.returns-then-h-ne0
-returns-then-h-ne0 c =
-    first-refused _ _ _ _ _ _ c.first_header_refused.ensures (first-named _ _ _ c.named_line-h.ensures c.if-h-ne0.true)
+pub returns-in_err-h : goal.returns-in_err-h
+returns-in_err-h c =
+    let e : c.from_residual.result ≡ Err c.in_err-h.field-0.0 = search rules in
+    e ∙ first-named _ _ _ (sym c.named_line.ensures ∙ c.in_err-h.was)
 
-pub headers_said-said-requires : goal.headers_said-said-requires
-headers_said-said-requires c =
-    (named-read _ _ _ c.named_line-h.ensures c.if-h-ne0.false).parted
+pub headers_said-requires : goal.headers_said-requires
+headers_said-requires c = (named-read _ _ _ (sym c.named_line.ensures ∙ c.in_ok-h.was)).parted
 
-pub returns-then-said-eq0 : goal.returns-then-said-eq0
-returns-then-said-eq0 c =
-    first-refused _ _ _ _ _ _ c.first_header_refused-then-said-eq0.ensures
-    (first-none _ _ _ c.named_line-h.ensures c.if-h-ne0.false _ c.headers_said-said.ensures c.if-said-eq0.true)
+pub returns-in_default : goal.returns-in_default
+returns-in_default c = first-refused _ _ _ (first-none _ _ _ (sym c.named_line.ensures ∙ c.in_ok-h.was) _ c.headers_said.ensures c.in_default.is)
 
 pub returns : goal.returns
-returns c =
-    first_good _ _ _ c.named_line-h.ensures c.if-h-ne0.false _ c.headers_said-said.ensures c.if-said-eq0.false
+returns c = first_good _ _ _ (sym c.named_line.ensures ∙ c.in_ok-h.was) _ c.headers_said.ensures _ c.in-Some.is

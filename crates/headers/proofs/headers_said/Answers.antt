@@ -1,23 +1,21 @@
-use borrow.Author.Tests.{not-true, not-false}
-use Rattle.headers.proofs.HeaderLaws.{said-other, said_bad, said-many, said-good}
+use mathlib.Core.Logic.{⊎_elim}
+use Rattle.headers.proofs.HeaderLaws.{said-other, said_bad, said-none, said-many, said-good}
 use Rattle.headers.proofs.headers_said.Goals as goal
 
 pub returns-then-not-same : goal.returns-then-not-same
-returns-then-not-same c =
-    let p = c.requires in
-    said-other p _ c.trimmed.ensures.content _ c.same.ensures (not-true _ c.if-not-same.true-raw)
+returns-then-not-same c = said-other c.requires _ c.trimmed.ensures.content _ c.same.ensures c.if-not-same.true
 
 pub returns-then-v-ne0 : goal.returns-then-v-ne0
-returns-then-v-ne0 c =
-    let p = c.requires in
-    said_bad p _ c.trimmed.ensures.content _ c.same.ensures (not-false _ c.if-not-same.false-raw) _ c.whole-v.ensures c.if-v-ne0.true
+returns-then-v-ne0 c = said_bad c.requires _ c.trimmed.ensures.content _ c.same.ensures c.if-not-same.false _ c.whole-v.ensures c.if-v-ne0.true
 
-pub returns-then-v : goal.returns-then-v
-returns-then-v c =
+pub returns-then-v-eq0 : goal.returns-then-v-eq0
+returns-then-v-eq0 c =
     let p = c.requires in
-    said-many p _ c.trimmed.ensures.content _ c.same.ensures (not-false _ c.if-not-same.false-raw) _ c.whole-v.ensures c.if-v-ne0.false c.if-v.true
+    let t = c.trimmed.ensures.content in
+    let v = c.whole-v.ensures in
+    ⊎_elim (λ z. said-none p _ t _ c.same.ensures c.if-not-same.false _ v c.if-v-ne0.false z)
+    (λ z. said-many p _ t _ c.same.ensures c.if-not-same.false _ v c.if-v-ne0.false z.1) c.then-v-eq0.either
 
 pub returns : goal.returns
 returns c =
-    let p = c.requires in
-    said-good p _ c.trimmed.ensures.content _ c.same.ensures (not-false _ c.if-not-same.false-raw) _ c.whole-v.ensures c.if-v-ne0.false c.if-v.false
+    said-good c.requires _ c.trimmed.ensures.content _ c.same.ensures c.if-not-same.false _ c.whole-v.ensures c.if-v-ne0.false c.if-v-eq0.false c.if-v.false

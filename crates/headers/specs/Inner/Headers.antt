@@ -1,8 +1,9 @@
 -- The words of the inner contracts of the header lines' reading. No promise of a public call cites them.
-use Rattle.std.specs.Prelude.{ℕ, ◌+◌, ◌≤◌, ◌<◌, ◌≡◌, true, List, length}
+use Rattle.std.specs.Prelude.{ℕ, ◌+◌, ◌≤◌, ◌<◌, ◌≡◌, true, List, length, cond, ltb, Option, Some, None, Result, Ok, Err}
 use Rattle.line_bytes.specs.Cells.{line_at}
 use Rattle.headers.specs.declared.Header.{Header}
 use Rattle.headers.specs.declared.FirstHeader.{FirstHeader}
+use Rattle.format.specs.declared.BrokenRule.{BrokenRule}
 use Rattle.format.specs.Faults.{Fault, clean, breaks, ◌then◌}
 use Rattle.format.specs.Headers.{raw_name, header_name_rule, headers_said}
 use Rattle.format.specs.Inner.Faults.{first_header_fault, header_fault}
@@ -27,23 +28,19 @@ abbrev pub header_fault_at : List (List ℕ) → List ℕ → ℕ → Fault
 header_fault_at earlier s i = line_fault_at true s i then header_fault earlier (line_at s i)
 
 -- the code's header line that starts at i, read by rules that say f: its line feed and its first =, or the broken rule
-abbrev pub no_header : ℕ → ℕ → Header
-no_header n c = record { end = 0; equals = 0; number = n; column = c }
-
-unfoldable pub header_for : Fault → List ℕ → ℕ → Header
-header_for clean s i = record { end = i + length (line_at s i); equals = i + length (raw_name (line_at s i)); number = 0; column = 0 }
-header_for (breaks n c) s i = no_header n c
+unfoldable pub header_for : Fault → List ℕ → ℕ → Result Header BrokenRule
+header_for clean s i = Ok (record { end = i + length (line_at s i); equals = i + length (raw_name (line_at s i)) })
+header_for (breaks n c) s i = Err (record { number = n; column = c })
 
 -- the same of the first, which says how many headers there are
-abbrev pub no_first_header : ℕ → ℕ → FirstHeader
-no_first_header n c = record { end = 0; equals = 0; said = 0; number = n; column = c }
-
-unfoldable pub first_header_for : Fault → List ℕ → ℕ → FirstHeader
-first_header_for clean s i = record {
+unfoldable pub first_header_for : Fault → List ℕ → ℕ → Result FirstHeader BrokenRule
+first_header_for clean s i = Ok (record {
   end = i + length (line_at s i);
   equals = i + length (raw_name (line_at s i));
   said = headers_said (line_at s i);
-  number = 0;
-  column = 0;
-}
-first_header_for (breaks n c) s i = no_first_header n c
+})
+first_header_for (breaks n c) s i = Err (record { number = n; column = c })
+
+-- a number of headers, 0 being none
+abbrev pub said_for : ℕ → Option ℕ
+said_for n = cond (ltb 0 n) (Some n) None

@@ -1,11 +1,13 @@
 use mathlib.Core.Path.{◌∙◌}
-use Rattle.format.proofs.LabelLaws.{name-refused, name_label}
+use Rattle.format.specs.Labels.{name_place}
+use Rattle.format.proofs.LabelLaws.{name_label}
 use Rattle.labels.proofs.name_place.Goals as goal
 
-pub returns-then-checked-ne0 : goal.returns-then-checked-ne0
-returns-then-checked-ne0 c =
-    c.no_place.ensures ∙ name-refused _ _ c.open_file-o.ensures c.if-checked-ne0.true _
+pub returns-in-Ok : goal.returns-in-Ok
+returns-in-Ok c =
+    let q = c.in-Ok.ensures in
+    c.label_in.ensures ∙ name_label _ _ q.0 q.1 _
 
-pub returns : goal.returns
-returns c =
-    c.label_in.ensures ∙ name_label _ _ c.open_file-o.ensures c.if-checked-ne0.false _
+pub returns-in-Err : goal.returns-in-Err
+unfolding name_place
+returns-in-Err c = rw (c.no_place.ensures, c.in-Err.ensures)

@@ -1,15 +1,5 @@
-use mathlib.Core.Path.{ap, subst}
-use Rattle.line_bytes.specs.Spaces.{IsPart}
-use Rattle.format.specs.declared.CellPlace.{CellPlace}
-use Rattle.format.specs.Labels.{place_refusal}
 use Rattle.format.proofs.LabelLaws.{unit-fits}
 use Rattle.labels.proofs.unit_of.Goals as goal
 
-pub part_at-requires : goal.part_at-requires
-part_at-requires c = rw c.unit_place-p.ensures (unit-fits _ _)
-
-pub returns : goal.returns
-returns c =
-    let f = c.args.file in
-    let e = c.unit_place-p.ensures in
-    record { part = subst (λ (p : CellPlace). IsPart f c.part_at.result p.place) e c.part_at.ensures; refusal_after = ap place_refusal e }
+pub hand_out-requires : goal.hand_out-requires
+hand_out-requires c = rw c.unit_place.ensures (unit-fits _ _)

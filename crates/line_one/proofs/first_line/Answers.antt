@@ -1,35 +1,41 @@
 use mathlib.Core.Path.{sym, ◌∙◌}
 use native.Mathlib.Omega.{arith}
+use borrow.Author.Tests.{eqb-true, eqb-false}
 use lib.Seq.{length-take-le}
+use Rattle.std.proofs.lemmas.Result.{err_from_is_err_and}
 use Rattle.format.proofs.RunLaws.{line-ends}
 use Rattle.line_one.proofs.FirstLaws.{first-refused, first-none, first_broken, first_marked, first_neither, first_good}
 use Rattle.line_one.proofs.first_line.Goals as goal
 
-pub returns-then-s-eq0 : goal.returns-then-s-eq0
-returns-then-s-eq0 c = first-refused _ _ _ _ c.first_refused.ensures (first-none _ c.if-s-eq0.true)
+pub returns-then-is_empty : goal.returns-then-is_empty
+returns-then-is_empty c =
+    first-refused _ _ (rw c.broken.ensures (first-none _ (eqb-true _ _ (sym c.if-is_empty.ensures))))
 
-pub returns-then-l-ne0 : goal.returns-then-l-ne0
-returns-then-l-ne0 c =
-    first-refused _ _ _ _ c.first_refused-then-l-ne0.ensures (first_broken _ c.if-s-eq0.false _ c.line_at-l.ensures c.if-l-ne0.true)
+pub returns-in_err-e : goal.returns-in_err-e
+returns-in_err-e c =
+    let p = err_from_is_err_and c.from_residual.result c.from_residual.ensures.1 in
+    rw (p.1, p.2) (first-refused _ _ (first_broken _ (eqb-false _ _ (sym c.if-is_empty.ensures)) _ (sym c.in_err-e.ensures)))
 
 pub slice_bounds-is_mark-end : goal.slice_bounds-is_mark-end
 slice_bounds-is_mark-end c =
-    sym (length-take-le _ c.args.s.now (omega (arith, (line-ends _ _ _ _ c.line_at-l.ensures c.if-l-ne0.false).1)))
+    sym (length-take-le _ c.args.s.now (omega (arith, (line-ends _ _ _ _ (sym c.in_ok-e.ensures)).1)))
 
 pub returns-then-is_mark : goal.returns-then-is_mark
 returns-then-is_mark c =
-    first-refused _ _ _ _ c.first_refused-then-is_mark.ensures
-    (first_marked _ c.if-s-eq0.false _ c.line_at-l.ensures c.if-l-ne0.false (sym c.is_mark.ensures ∙ c.if-is_mark.true))
+    first-refused _ _
+    (rw c.broken-then-is_mark.ensures
+    (first_marked _ (eqb-false _ _ (sym c.if-is_empty.ensures)) _ (sym c.in_ok-e.ensures) (sym c.is_mark.ensures ∙ c.if-is_mark.true)))
 
-pub returns-then-kind-eq-NEITHER : goal.returns-then-kind-eq-NEITHER
-returns-then-kind-eq-NEITHER c =
-    first-refused _ _ _ _ c.first_refused-then-kind-eq-NEITHER.ensures
-    (first_neither _ c.if-s-eq0.false _ c.line_at-l.ensures c.if-l-ne0.false (sym c.is_mark.ensures ∙ c.if-is_mark.false) _ c.kind_of_first-kind.ensures c.if-kind-eq-NEITHER.true)
+pub returns-in_default : goal.returns-in_default
+returns-in_default c =
+    first-refused _ _
+    (rw c.broken-in_default.ensures
+    (first_neither _ (eqb-false _ _ (sym c.if-is_empty.ensures)) _ (sym c.in_ok-e.ensures) (sym c.is_mark.ensures ∙ c.if-is_mark.false) (sym c.kind_of_first.ensures ∙ c.in_default.is)))
 
 pub overflow_add-result : goal.overflow_add-result
 overflow_add-result c =
-    omega (arith, (line-ends _ _ _ _ c.line_at-l.ensures c.if-l-ne0.false).1)
+    omega (arith, (line-ends _ _ _ _ (sym c.in_ok-e.ensures)).1)
 
 pub returns : goal.returns
 returns c =
-    first_good _ c.if-s-eq0.false _ c.line_at-l.ensures c.if-l-ne0.false (sym c.is_mark.ensures ∙ c.if-is_mark.false) _ c.kind_of_first-kind.ensures c.if-kind-eq-NEITHER.false
+    first_good _ (eqb-false _ _ (sym c.if-is_empty.ensures)) _ (sym c.in_ok-e.ensures) (sym c.is_mark.ensures ∙ c.if-is_mark.false) _ (sym c.kind_of_first.ensures ∙ c.in-Some.is)

@@ -1,10 +1,17 @@
-use mathlib.Core.Path.{◌∙◌, ap}
-use Rattle.format.specs.Faults.{place_in}
-use Rattle.format.proofs.NameLaws.{names-few}
+-- The search by place is that among the names.
+use Rattle.std.proofs.Common.{rules}
+use Rattle.std.proofs.lemmas.Iterator.{YieldsList-from_slice}
+use Rattle.std.proofs.lemmas.Iterator.Search.{position_from_yields_List}
+use mathlib.Core.Path.{◌∙◌}
+use Prim.Native.Nat.{◌+◌}
+use Rattle.line_bytes.specs.Bytes.{equal}
+use Rattle.line_bytes.specs.declared.Span.{Span}
+use Rattle.format.specs.Inner.Names.{text_in}
+use Rattle.format.proofs.NameLaws.{names-position}
 use Rattle.names.proofs.place_of.Goals as goal
 
 pub returns : goal.returns
 returns c =
-    let n = c.count_of.ensures in
     let a = c.args in
-    c.place_among.ensures.0 ∙ ap (place_in a.name.now) (names-few a.s.now _ a.n a.starts.now a.ends.now n)
+    position_from_yields_List (λ (p : Span). equal (text_in a.s.now p.start (p.start + p.len)) a.name.now) _ _ c.position.result c.position.ensures.ran (YieldsList-from_slice a.places.now cc) (λ x b q k. search rules)
+    ∙ names-position a.name.now a.s.now a.places.now

@@ -1,8 +1,3 @@
--- src/lib.rt:13:9
--- src/lib.rt:14:16
--- src/lib.rt:14:9
--- src/lib.rt:14:9
--- src/lib.rt:9:1
 use Rattle.pages.proofs.PageLaws.{byte_put, byte_left}
 use Rattle.pages.proofs.put_byte.Goals as goal
 

@@ -1,5 +1,5 @@
 -- The words of the contracts of a profile's rows. No promise of a public call cites them.
-use Rattle.std.specs.Prelude.{ℕ, suc, ◌+◌, ◌≤◌, ◌≡◌, List, map, Bool, cond, length, get_or, eqb}
+use Rattle.std.specs.Prelude.{ℕ, suc, ◌+◌, ◌<◌, ◌≤◌, ◌≡◌, List, [], map, length, get_or, Option, Some, None, IfSome, MatchOption}
 use Rattle.line_bytes.specs.Bytes.{comma}
 use Rattle.line_bytes.specs.Cells.{line_at}
 use Rattle.line_bytes.specs.Inner.Scans.{Stop}
@@ -14,17 +14,21 @@ pub data RowLines (s ks : List ℕ) : ℕ → ℕ → Type 0 where
   none : {i : ℕ} → RowLines s ks i 0
   more : {i n : ℕ} → Stop comma s i (i + length (line_at s i)) → row_fault ks (line_cells s i) ≡ clean → RowLines s ks (i + length (line_at s i) + 1) n → RowLines s ks i (suc n)
 
--- a run with a row noted
-abbrev pub with_noted : Run → ℕ → Bool → Run
-with_noted r row here = cond here (record { first = cond (eqb r.rows 0) row r.first; rows = r.rows + 1 }) r
+-- a run with one more row
+abbrev pub with_noted : Option Run → ℕ → Run
+with_noted (Some r) row = record { first = r.first; rows = r.rows + 1 }
+with_noted None row = record { first = row; rows = 1 }
 
--- the run of the rows xs
-pub record RunOf (xs : List ℕ) (r : Run) : Type 0 where
+-- the run of the rows xs: none where there are none
+pub record RunIs (xs : List ℕ) (r : Run) : Type 0 where
+  pub some : 0 < r.rows
   pub many : r.rows ≡ length xs
-  pub first : (r.rows ≡ 0 → ⊥) → r.first ≡ get_or xs 0 0
+  pub first : r.first ≡ get_or xs 0 0
+
+abbrev pub RunOf : List ℕ → Option Run → Type 0
+RunOf xs r = MatchOption r (xs ≡ []) (RunIs xs)
 
 -- of the rows of profile k among the n data lines from place i on
-pub record RunRead (s ks : List ℕ) (i n k : ℕ) (r : Run) : Type 0 where
+pub record RunRead (s ks : List ℕ) (i n k : ℕ) (r : Option Run) : Type 0 where
   pub run : RunOf (rows_of k 1 (labels (map (key_of ks) (rows_from s i n)))) r
-  pub low : (r.rows ≡ 0 → ⊥) → 1 ≤ r.first
-  pub high : r.first ≤ n
+  pub within : IfSome r (λ x. (1 ≤ x.first) × (x.first ≤ n))

@@ -5,4 +5,4 @@ use Rattle.format.proofs.OpenedLaws.{opened_checked}
 use Rattle.rules.proofs.check.Goals as goal
 
 pub returns : goal.returns
-returns c = ap (λ (o : Opened). o.checked) c.open_file-o.ensures ∙ opened_checked _
+returns c = ap (λ (o : Opened). o.checked) c.open_file.ensures ∙ opened_checked _

@@ -1,12 +1,16 @@
--- The check's answer and the places, of a file that is refused, of a bottle file and of a CTD file.
-use Rattle.rules.proofs.AnswerLaws.{answer-refused, answer-bottle, answer-ctd}
+-- The check's answer and the places, of a CTD file, of a bottle file and of a file that is refused.
+use Rattle.rules.proofs.AnswerLaws.{answer, answer-refused, one_profile, runs_profiles}
 use Rattle.rules.proofs.open_file.Goals as goal
 
-pub returns-then-v-ne0 : goal.returns-then-v-ne0
-returns-then-v-ne0 c = answer-refused _ c.table_of-v.result c.table_of-v.ensures c.if-v-ne0.true
+pub returns-in-Ctd : goal.returns-in-Ctd
+returns-in-Ctd c =
+    let w = rw c.in-Ok.is at c.table_of.ensures in
+    answer _ c.in-Ok.t w.0 w.1 1 (one_profile w.0.sort _ c.in-Ok.t.profiles w.1.kind c.in-Ctd.is)
 
-pub returns-then-v-eq-BOTTLE : goal.returns-then-v-eq-BOTTLE
-returns-then-v-eq-BOTTLE c = answer-bottle _ c.table_of-v.result c.table_of-v.ensures c.if-v-ne0.false c.if-v-eq-BOTTLE.true
+pub returns-in_default : goal.returns-in_default
+returns-in_default c =
+    let w = rw c.in-Ok.is at c.table_of.ensures in
+    answer _ c.in-Ok.t w.0 w.1 _ (runs_profiles w.0.sort _ c.in-Ok.t.profiles w.1.kind c.in_default.not-Ctd)
 
-pub returns : goal.returns
-returns c = answer-ctd _ c.table_of-v.result c.table_of-v.ensures c.if-v-ne0.false c.if-v-eq-BOTTLE.false
+pub returns-in-Err : goal.returns-in-Err
+returns-in-Err c = answer-refused _ c.in-Err.r (rw c.in-Err.is at c.table_of.ensures)

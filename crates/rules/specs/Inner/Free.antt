@@ -1,19 +1,40 @@
 -- The words of the contracts of the lines that rules 1 to 4 alone bind; no promise of a public call cites them.
-use Rattle.std.specs.Prelude.{ℕ, ◌+◌, ◌≤◌, ◌<◌, ◌≡◌, List, Bool, true, false, length, get_or}
-use Rattle.rules.specs.declared.free.Walk.{Walk}
+use Rattle.std.specs.Prelude.{ℕ, ◌+◌, ◌≤◌, ◌<◌, ◌≡◌, List, length, get_or, Result, Ok, Err}
+use Rattle.format.specs.declared.BrokenRule.{BrokenRule}
+use Rattle.format.specs.declared.Refusal.{Refusal}
+use Rattle.rules.specs.declared.free.LineStart.{LineStart}
+use Rattle.rules.specs.declared.free.FreeLines.{FreeLines}
+use Rattle.rules.specs.declared.free.FreeLines.TheVariants.{Comments, Last}
 use Rattle.format.specs.Columns.{Sort}
 use Rattle.format.specs.Places.{Table, Place, comments, after, refused, run}
 use Rattle.format.specs.Inner.Lines.{lines_from, StartsAt}
 
--- a place that rules 1 to 4 alone bind, and that a line leaves as it is: that of comment lines, for a comment line; that after END_DATA
-pub data FreePlace : Bool → Place → Type 0 where
-  commented : {k : Sort} → FreePlace true (comments k)
-  ended : {t : Table} {n : ℕ} → FreePlace false (after t n)
+-- what was read of line l, or the refusal for the rule that it breaks
+abbrev pub on_line : {T : Type 0} → Result T BrokenRule → ℕ → Result T Refusal
+on_line (Ok x) l = Ok x
+on_line (Err b) l = Err (record { number = b.number; line = l; column = b.column })
 
--- the lines at such a place from i on, which is line l: the comment lines only, or all lines
-pub record FreeRead (only : Bool) (s : List ℕ) (i l : ℕ) (r : Walk) : Type 0 where
-  pub stop : (p : Place) → FreePlace only p → (r.number ≡ 0 → ⊥) → run l p (lines_from s i) ≡ refused r.number r.line r.column
-  pub on : (p : Place) → FreePlace only p → r.number ≡ 0 → run l p (lines_from s i) ≡ run r.line p (lines_from s r.at)
-  pub inside : r.number ≡ 0 → (i ≤ r.at) × (r.at ≤ length s) × (r.line + i ≤ r.at + l)
-  pub other : r.number ≡ 0 → r.at < length s → (only ≡ true) × (get_or s r.at 0 ≡ 35 → ⊥)
-  pub counted : r.number ≡ 0 → 1 ≤ l → StartsAt s l i → (1 ≤ r.line) × StartsAt s r.line r.at
+-- the refusal for line l, which is due where the file ends
+abbrev pub due : ℕ → Refusal
+due l = record { number = 14; line = l; column = 1 }
+
+-- the line after line l, its line feed standing at e, or its refusal
+abbrev pub after_line : Result ℕ BrokenRule → ℕ → Result LineStart Refusal
+after_line (Ok e) l = Ok (record { at = e + 1; line = l + 1 })
+after_line (Err b) l = Err (record { number = b.number; line = l; column = b.column })
+
+-- a place that rules 1 to 4 alone bind, and that a line leaves as it is: that of comment lines, for a comment line; that after END_DATA
+pub data FreePlace : FreeLines → Place → Type 0 where
+  commented : {k : Sort} → FreePlace Comments (comments k)
+  ended : {t : Table} {n : ℕ} → FreePlace Last (after t n)
+
+-- the lines at such a place from f on are passed, and r is the next; or one of them breaks a rule
+pub record FreePassed (w : FreeLines) (s : List ℕ) (f r : LineStart) : Type 0 where
+  pub on : (p : Place) → FreePlace w p → run f.line p (lines_from s f.at) ≡ run r.line p (lines_from s r.at)
+  pub inside : (f.at ≤ r.at) × (r.at ≤ length s) × (r.line + f.at ≤ r.at + f.line)
+  pub other : r.at < length s → (w ≡ Comments) × (get_or s r.at 0 ≡ 35 → ⊥)
+  pub counted : 1 ≤ f.line → StartsAt s f.line f.at → (1 ≤ r.line) × StartsAt s r.line r.at
+
+abbrev pub FreeRead : FreeLines → List ℕ → LineStart → Result LineStart Refusal → Type 0
+FreeRead w s f (Ok r) = FreePassed w s f r
+FreeRead w s f (Err e) = (p : Place) → FreePlace w p → run f.line p (lines_from s f.at) ≡ refused e.number e.line e.column

@@ -1,25 +1,28 @@
 -- The words of the contracts of the header lines' run; no promise of a public call cites them.
-use Rattle.std.specs.Prelude.{ℕ, ◌+◌, ◌≤◌, ◌<◌, ◌≡◌, List, length, get_or}
+use Rattle.std.specs.Prelude.{ℕ, ◌+◌, ◌≤◌, ◌<◌, ◌≡◌, List, length, get_or, Result, Ok, Err}
+use Rattle.format.specs.declared.Refusal.{Refusal}
 use Rattle.headers.specs.declared.FirstHeader.{FirstHeader}
 use Rattle.headers.specs.Inner.Headers.{first_header_fault_at, first_header_for}
-use Rattle.rules.specs.declared.free.Walk.{Walk}
+use Rattle.rules.specs.declared.free.LineStart.{LineStart}
 use Rattle.format.specs.Headers.{Header}
 use Rattle.format.specs.Columns.{ctd}
 use Rattle.format.specs.Places.{comments, names, refused, run}
 use Rattle.format.specs.Inner.Lines.{lines_from, StartsAt}
 
--- the first header line, which starts at i and is line l, is h and keeps its rules
-pub record Begun (s : List ℕ) (i l : ℕ) (h : FirstHeader) : Type 0 where
-  pub inside : i < length s
-  pub few : l ≤ i + 2
-  pub apart : get_or s i 0 ≡ 35 → ⊥
-  pub read : h ≡ first_header_for (first_header_fault_at s i) s i
-  pub good : h.number ≡ 0
+-- the first header line, which is at f, is h and keeps its rules
+pub record Begun (s : List ℕ) (f : LineStart) (h : FirstHeader) : Type 0 where
+  pub inside : f.at < length s
+  pub few : f.line ≤ f.at + 2
+  pub apart : get_or s f.at 0 ≡ 35 → ⊥
+  pub read : first_header_for (first_header_fault_at s f.at) s f.at ≡ Ok h
 
--- the headers read from place i on, which is line l
-pub record HeadersRead (s : List ℕ) (i l : ℕ) (r : Walk) : Type 0 where
-  pub stop : (r.number ≡ 0 → ⊥) → run l (comments ctd) (lines_from s i) ≡ refused r.number r.line r.column
-  pub on : r.number ≡ 0
-      → (hs : List Header) × (run l (comments ctd) (lines_from s i) ≡ run r.line (names ctd hs) (lines_from s r.at)) × (r.line ≡ l + length hs)
-  pub inside : r.number ≡ 0 → (r.at ≤ length s) × (r.line ≤ r.at + 2)
-  pub counted : r.number ≡ 0 → 1 ≤ l → StartsAt s l i → (1 ≤ r.line) × StartsAt s r.line r.at
+-- the headers from f on are read, and r is the line after them
+pub record HeadersPassed (s : List ℕ) (f r : LineStart) : Type 0 where
+  pub on : (hs : List Header) × (run f.line (comments ctd) (lines_from s f.at) ≡ run r.line (names ctd hs) (lines_from s r.at)) × (r.line ≡ f.line + length hs)
+  pub inside : (r.at ≤ length s) × (r.line ≤ r.at + 2)
+  pub counted : 1 ≤ f.line → StartsAt s f.line f.at → (1 ≤ r.line) × StartsAt s r.line r.at
+
+-- or a rule is broken
+abbrev pub HeadersRead : List ℕ → LineStart → Result LineStart Refusal → Type 0
+HeadersRead s f (Ok r) = HeadersPassed s f r
+HeadersRead s f (Err e) = run f.line (comments ctd) (lines_from s f.at) ≡ refused e.number e.line e.column

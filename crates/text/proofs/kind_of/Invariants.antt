@@ -1,11 +1,8 @@
-use Prim.Native.Nat.{◌≤◌, ◌-◌, ◌/◌}
+use Prim.Native.Nat.{◌-◌, ◌/◌}
 use mathlib.Core.Path.{◌≡◌}
 use lib.ListN.{length}
 use Rattle.text.specs.Catalogue.{search_from, look_up}
 use Rattle.text.proofs.kind_of.Given as goal
 
 abbrev pub invariant-loop-k : goal.invariant-loop-k
-invariant-loop-k l = (l.k ≤ length l.listed / 16) × (look_up l.listed l.name ≡ search_from l.listed l.name (length l.listed / 16 - l.k) l.k)
-
-abbrev pub decreases-loop-k : goal.decreases-loop-k
-decreases-loop-k l = l.n - l.k
+invariant-loop-k l = look_up l.listed l.name ≡ search_from l.listed l.name (length l.listed / 16 - l.k) l.k

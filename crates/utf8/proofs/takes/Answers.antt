@@ -1,5 +1,4 @@
 use mathlib.Core.Path.{◌∙◌, sym}
-use borrow.Author.Tests.{not-true, not-false}
 use native.Mathlib.Omega.{arith}
 use Rattle.utf8.specs.Rows.{row_in}
 use Rattle.utf8.proofs.RowLaws.{row-length, takes_first, takes-short, takes_out, takes-on, takes_all}
@@ -16,12 +15,12 @@ loop-j-init c =
 pub returns-then-not-within : goal.returns-then-not-within
 returns-then-not-within c =
     let v = c.loop-j.invariant in
-    sym (v.2 ∙ takes_out _ _ _ _ c.loop-j-test.true (omega (arith, c.loop-j-test.true, v.1)) (sym c.within.ensures ∙ not-true _ c.if-not-within.true-raw))
+    sym (v.2 ∙ takes_out _ _ _ _ c.loop-j-test.true (omega (arith, c.loop-j-test.true, v.1)) (sym c.within.ensures ∙ c.if-not-within.true))
 
 pub loop-j-preserved : goal.loop-j-preserved
 loop-j-preserved c =
     let v = c.loop-j.invariant in
-    (v.0, v.1, v.2 ∙ takes-on _ _ _ _ c.loop-j-test.true (omega (arith, c.loop-j-test.true, v.1)) (sym c.within.ensures ∙ not-false _ c.if-not-within.false-raw))
+    (v.0, v.1, v.2 ∙ takes-on _ _ _ _ c.loop-j-test.true (omega (arith, c.loop-j-test.true, v.1)) (sym c.within.ensures ∙ c.if-not-within.false))
 
 pub returns : goal.returns
 returns c = let v = c.loop-j.invariant in sym (v.2 ∙ takes_all _ _ _ _ c.loop-j-test.false)

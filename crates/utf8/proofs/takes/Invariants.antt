@@ -1,4 +1,4 @@
-use Prim.Native.Nat.{◌-◌, ◌≤◌}
+use Prim.Native.Nat.{◌≤◌}
 use mathlib.Core.Path.{◌≡◌}
 use lib.ListN.{length}
 use Rattle.utf8.specs.Syntax.{takes}
@@ -8,6 +8,3 @@ use Rattle.utf8.proofs.takes.Given as goal
 
 abbrev pub invariant-loop-j : goal.invariant-loop-j
 invariant-loop-j l = (l.n ≤ 4) × (l.n ≤ length l.text) × (takes (row_in l.row) l.text ≡ takes_from l.row l.n l.text l.j)
-
-abbrev pub decreases-loop-j : goal.decreases-loop-j
-decreases-loop-j l = l.n - l.j

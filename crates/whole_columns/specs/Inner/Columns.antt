@@ -1,6 +1,7 @@
 -- The words of the inner contracts: a column found in a file, and its rows. No promise of a public call cites them.
-use Rattle.std.specs.Prelude.{ℕ, ◌≤◌, ◌≡◌, List, Bool, ◌&&◌, leb}
+use Rattle.std.specs.Prelude.{ℕ, ◌≤◌, ◌≡◌, List, Bool, Result, Ok, Err}
 use Rattle.text.specs.declared.Reading.{Reading}
+use Rattle.format.specs.declared.Refusal.{Refusal}
 use Rattle.format.specs.Places.{outcome_of}
 use Rattle.format.specs.Answers.{checked_of}
 use Rattle.format.specs.ByPlace.{row_start}
@@ -8,24 +9,31 @@ use Rattle.format.specs.ReadingNumbers.{reading_case, read_millionths, read_valu
 use Rattle.laws.specs.OpenedReads.{kind_read}
 use Rattle.whole_columns.specs.declared.opening.Column.{Column}
 use Rattle.whole_columns.specs.declared.filling.Entry.{Entry}
-use Rattle.whole_columns.specs.Columns.{column_by}
+use Rattle.whole_columns.specs.declared.opening.ReadAs.{ReadAs}
+use Rattle.whole_columns.specs.declared.opening.ReadAs.TheVariants.{Decimals, Flags}
+use Rattle.whole_columns.specs.Columns.{rows_given, no_column, column_by, is_decimal_kind, is_flag_kind}
 
--- column c, of kind k, of a file with n rows, the first of which starts at i
-pub record Stands (f : List ℕ) (i n c k : ℕ) : Type 0 where
-  pub rows : n ≤ (checked_of f).rows
-  pub start : i ≡ row_start f 1
-  pub kind : k ≡ kind_read f c
+-- a column of a file, with at most its rows
+pub record Stands (f : List ℕ) (x : Column) : Type 0 where
+  pub rows : x.rows ≤ (checked_of f).rows
+  pub start : x.first ≡ row_start f 1
+  pub kind : x.kind ≡ kind_read f x.column
 
--- the kinds from the least to the most
-abbrev pub between : ℕ → ℕ → ℕ → Bool
-between least most k = leb least k && leb k most
+-- the kinds of columns that are read so
+abbrev pub is_read : ReadAs → ℕ → Bool
+is_read Decimals = is_decimal_kind
+is_read Flags = is_flag_kind
 
--- column c found, of one of these kinds, with room for its rows; or refused
-pub record Found (f : List ℕ) (c least most room : ℕ) (x : Column) : Type 0 where
-  pub answer : x.answer ≡ column_by (between least most) room c (outcome_of f)
-  pub stands : x.answer.number ≡ 0 → Stands f x.first x.answer.rows c x.kind
-  pub refused : (x.answer.number ≡ 0 → ⊥) → x.answer.rows ≡ 0
-  pub fits : x.answer.rows ≤ room
+-- column c found, read so, with room for its rows; or refused
+pub record FoundColumn (f : List ℕ) (c : ℕ) (kinds : ReadAs) (room : ℕ) (x : Column) : Type 0 where
+  pub column : x.column ≡ c
+  pub answer : column_by (is_read kinds) room c (outcome_of f) ≡ rows_given x.rows
+  pub stands : Stands f x
+  pub fits : x.rows ≤ room
+
+abbrev pub Found : List ℕ → ℕ → ReadAs → ℕ → Result Column Refusal → Type 0
+Found f c kinds room (Ok x) = FoundColumn f c kinds room x
+Found f c kinds room (Err e) = column_by (is_read kinds) room c (outcome_of f) ≡ no_column e.number e.line e.column
 
 -- a reading as the entries of three tables
 abbrev pub entry_for : Reading → Entry

@@ -1,7 +1,6 @@
-use mathlib.Core.Path.{refl, ◌∙◌}
+use mathlib.Core.Path.{refl}
 use mathlib.Core.Bool.{true, false}
 use native.Mathlib.Omega.{arith}
-use borrow.Author.Tests.{not-true, not-false}
 use Rattle.orders.proofs.OneLineLaws.{one-ends}
 use Rattle.orders.proofs.ListLineLaws.{name_from, name-to, fields_read_lem, millionths-back}
 use Rattle.list_lines.proofs.fields.fields_of.Goals as goal
@@ -23,10 +22,9 @@ slice_bounds-is_name-end c = name-to (one-ends _ c.requires) c.whole-row.ensures
 
 pub returns-then-not-is_good-flag : goal.returns-then-not-is_good-flag
 returns-then-not-is_good-flag c =
-    c.malformed.ensures
-    ∙ fields_read_lem (one-ends _ c.requires) c.whole-row.ensures c.after-start.ensures c.judge-name.ensures
+    fields_read_lem (one-ends _ c.requires) c.whole-row.ensures c.after-start.ensures c.judge-name.ensures
     c.after.ensures c.judge-value.ensures c.after-2.ensures c.whole-flag.ensures
-    c.is_name-is_name.result false _ c.is_name-is_name.ensures refl (not-true _ c.if-not-is_good-flag.true-raw)
+    c.is_name-is_name.result false _ c.is_name-is_name.ensures refl c.if-not-is_good-flag.true
 
 pub overflow_sub-result : goal.overflow_sub-result
 overflow_sub-result c = name_from (one-ends _ c.requires) c.whole-row.ensures c.after-start.ensures c.judge-name.ensures
@@ -35,4 +33,4 @@ pub returns : goal.returns
 returns c =
     fields_read_lem (one-ends _ c.requires) c.whole-row.ensures c.after-start.ensures c.judge-name.ensures
     c.after.ensures c.judge-value.ensures c.after-2.ensures c.whole-flag.ensures
-    c.is_name-is_name.result true _ c.is_name-is_name.ensures (millionths-back _ _ _ c.signed_size.ensures) (not-false _ c.if-not-is_good-flag.false-raw)
+    c.is_name-is_name.result true _ c.is_name-is_name.ensures (millionths-back _ _ _ c.signed_size.ensures) c.if-not-is_good-flag.false

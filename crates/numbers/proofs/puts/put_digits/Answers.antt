@@ -8,8 +8,8 @@ overflow_sub-start c = digits-room _ _ _ c.args.n c.requires
 pub loop-at-init : goal.loop-at-init
 loop-at-init c = digits-start _ _ _ _ c.requires
 
-pub overflow_sub-at : goal.overflow_sub-at
-overflow_sub-at c = omega arith
+pub overflow_step-at : goal.overflow_step-at
+overflow_step-at c = omega arith
 
 pub overflow_cast-file : goal.overflow_cast-file
 overflow_cast-file c = omega arith
@@ -19,9 +19,6 @@ overflow_add-file c = omega arith
 
 pub bounds-file-at : goal.bounds-file-at
 bounds-file-at c = let l = c.loop-at in omega (arith, l.invariant.same, l.invariant.put.starts, c.requires.inside)
-
-pub loop-at-smaller : goal.loop-at-smaller
-loop-at-smaller c = omega arith
 
 pub loop-at-preserved : goal.loop-at-preserved
 loop-at-preserved c = digits_turn _ _ _ _ c.requires c.loop-at-test.true c.loop-at.invariant

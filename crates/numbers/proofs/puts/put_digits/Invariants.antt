@@ -3,6 +3,3 @@ use Rattle.numbers.proofs.puts.put_digits.Given as goal
 
 abbrev pub invariant-loop-at : goal.invariant-loop-at
 invariant-loop-at l = Digits l.initial.file l.end l.count l.n l.start l.file l.at l.rest
-
-abbrev pub decreases-loop-at : goal.decreases-loop-at
-decreases-loop-at l = l.at

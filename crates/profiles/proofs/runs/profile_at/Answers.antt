@@ -1,18 +1,23 @@
 -- The file is opened, then the rows of the profile are found.
-use Rattle.profiles.proofs.RecordLaws.{profile-refused, profile-none, profile-found}
+use mathlib.Core.Path.{subst}
+use Rattle.std.specs.Prelude.{Option}
+use Rattle.std.proofs.lemmas.Result.{err_from_is_err_and}
+use Rattle.profiles.specs.declared.runs.Run.{Run}
+use Rattle.profiles.specs.Inner.Values.{RunFound}
+use Rattle.profiles.proofs.RecordLaws.{profile-refused, profile-missed, profile-found}
 use Rattle.profiles.proofs.runs.profile_at.Goals as goal
 
 pub returns-then-checked-ne0 : goal.returns-then-checked-ne0
-returns-then-checked-ne0 c =
-    profile-refused _ _ _ c.open_file-o.ensures _ c.if-checked-ne0.true c.no_profile.ensures
+returns-then-checked-ne0 c = profile-refused _ _ _ c.open_file-o.ensures c.if-checked-ne0.true
 
-pub returns-then-r-eq0 : goal.returns-then-r-eq0
-returns-then-r-eq0 c =
-    profile-none _ _ _ c.open_file-o.ensures c.if-checked-ne0.false _ c.run_in-r.ensures _ c.if-r-eq0.true c.no_profile-then-r-eq0.ensures
-
-pub overflow_sub-r : goal.overflow_sub-r
-overflow_sub-r c = c.run_in-r.ensures.low c.if-r-eq0.false
+pub returns-in_err-r : goal.returns-in_err-r
+returns-in_err-r c =
+    let p = err_from_is_err_and c.from_residual.result c.from_residual.ensures.1 in
+    let q = profile-missed _ _ _ c.open_file-o.ensures c.if-checked-ne0.false _ _ c.run_in.ensures c.in_err-r.ensures.value in
+    rw (p.1, p.2) q
 
 pub returns : goal.returns
 returns c =
-    profile-found _ _ _ c.open_file-o.ensures c.if-checked-ne0.false _ c.run_in-r.ensures c.if-r-eq0.false _ c.is_bottle.ensures _ c.line_start.ensures
+    let s = c.args.s.now in
+    let f = subst (λ (r : Option Run). RunFound s c.open_file-o.result.checked.rows c.args.k r) c.in_ok-r.ensures.ok_part c.run_in.ensures in
+    profile-found _ _ _ c.open_file-o.ensures c.if-checked-ne0.false _ f _ c.line_start.ensures

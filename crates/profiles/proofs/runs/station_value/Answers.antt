@@ -4,8 +4,8 @@ use Rattle.profiles.proofs.runs.station_value.Goals as goal
 pub header_value-requires : goal.header_value-requires
 header_value-requires c = station-headers _ _ _ c.requires.1
 
-pub returns-then-p : goal.returns-then-p
-returns-then-p c = λ t w. station-column _ t _ w _ c.if-p.true _ c.column_value.ensures
+pub returns-in-Bottle : goal.returns-in-Bottle
+returns-in-Bottle c = λ t w. station-column _ t _ w _ c.in-Bottle.is _ c.column_value.ensures
 
-pub returns-else-p : goal.returns-else-p
-returns-else-p c = λ t w. station-header _ t _ w c.if-p.false _ _ c.header_value.ensures
+pub returns-in_default : goal.returns-in_default
+returns-in_default c = λ t w. station-header _ t _ w c.in_default.not-Bottle _ _ c.header_value.ensures

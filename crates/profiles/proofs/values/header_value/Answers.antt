@@ -1,7 +1,7 @@
 -- The value among all headers is the value among those from the present line on.
 use mathlib.Core.Path.{refl, ◌∙◌}
 use native.Mathlib.Omega.{arith}
-use Rattle.profiles.proofs.ValueLaws.{none_read, headers_done, left_parted, left_passed, left-found}
+use Rattle.profiles.proofs.ValueLaws.{headers_done, left_parted, left_passed, left-found}
 use Rattle.profiles.proofs.values.header_value.Goals as goal
 
 pub loop-at-init : goal.loop-at-init
@@ -48,4 +48,4 @@ loop-at-preserved c = λ l hs y.
 pub returns : goal.returns
 returns c = λ l hs y.
     let x = c.loop-at.invariant l hs y in
-    none_read _ _ _ c.no_value.ensures (x.same ∙ headers_done _ x.lines c.loop-at-test.false)
+    x.same ∙ headers_done _ x.lines c.loop-at-test.false

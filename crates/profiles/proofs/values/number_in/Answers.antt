@@ -1,8 +1,6 @@
-use Rattle.profiles.proofs.ValueLaws.{number-none, number-some}
+use Rattle.std.proofs.lemmas.Option.{MatchOption-at_some}
+use Rattle.profiles.proofs.ValueLaws.{number-some}
 use Rattle.profiles.proofs.values.number_in.Goals as goal
 
-pub returns-then-not-v : goal.returns-then-not-v
-returns-then-not-v c = λ x w. number-none w _ c.if-not-v.true
-
-pub returns : goal.returns
-returns c = λ x w. number-some w c.if-not-v.false _ _ c.judge-j.ensures
+pub returns-in-Some : goal.returns-in-Some
+returns-in-Some c = λ x w. number-some (MatchOption-at_some _ _ _ c.in-Some.is w) _ _ c.judge.ensures

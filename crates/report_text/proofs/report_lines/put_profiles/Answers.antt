@@ -8,18 +8,15 @@ use Rattle.report_text.proofs.report_lines.put_profiles.Goals as goal
 
 pub loop-k-init : goal.loop-k-init
 unfolding profile_lines lay
-loop-k-init c = (omega arith, refl, refl)
+loop-k-init c = (refl, refl)
 
 pub loop-k-preserved : goal.loop-k-preserved
 loop-k-preserved c =
-    let e = put-after _ _ _ _ _ _ _ _ c.loop-k.invariant.2 c.put_profile-at.ensures in
-    (omega arith, text-room _ _ _ _ _ c.put_profile-at.ensures ∙ c.loop-k.invariant.1, e ∙ ap (lay _) (profiles-more _ c.loop-k.k))
-
-pub shape_of-room : goal.shape_of-room
-shape_of-room c = c.loop-k.invariant.1
+    let e = put-after _ _ _ _ _ _ _ _ c.loop-k.invariant.1 c.put_profile-at.ensures in
+    (text-room _ _ _ _ _ c.put_profile-at.ensures ∙ c.loop-k.invariant.0, e ∙ ap (lay _) (profiles-more _ c.loop-k.k))
 
 pub returns : goal.returns
 returns c =
     let l = c.loop-k in
     let e : l.k ≡ c.args.n = omega arith in
-    lay_along _ _ _ _ (ap (profile_lines _) e) l.invariant.2
+    lay_along _ _ _ _ (ap (profile_lines _) e) l.invariant.1

@@ -7,11 +7,11 @@ use Rattle.format.specs.Inner.Lines.{lines_from, StartsAt}
 use Rattle.rules.specs.Inner.Free.{FreePlace}
 use Rattle.rules.proofs.free.free_lines.Given as goal
 
-abbrev pub invariant-loop-at : goal.invariant-loop-at
-invariant-loop-at l =
-    (l.start ≤ l.at) × (l.at ≤ length l.s) × (l.line + l.start ≤ l.at + l.first) × (l.line ≤ l.at + 2 ^ 20)
-    × ((p : Place) → FreePlace l.comments p → run l.first p (lines_from l.s l.start) ≡ run l.line p (lines_from l.s l.at))
-    × (1 ≤ l.first → StartsAt l.s l.first l.start → (1 ≤ l.line) × StartsAt l.s l.line l.at)
+abbrev pub invariant-loop-next : goal.invariant-loop-next
+invariant-loop-next l =
+    (l.fn.from.at ≤ l.next.at) × (l.next.at ≤ length l.s) × (l.next.line + l.fn.from.at ≤ l.next.at + l.fn.from.line) × (l.next.line ≤ l.next.at + 2 ^ 20)
+    × ((p : Place) → FreePlace l.lines p → run l.fn.from.line p (lines_from l.s l.fn.from.at) ≡ run l.next.line p (lines_from l.s l.next.at))
+    × (1 ≤ l.fn.from.line → StartsAt l.s l.fn.from.line l.fn.from.at → (1 ≤ l.next.line) × StartsAt l.s l.next.line l.next.at)
 
-abbrev pub decreases-loop-at : goal.decreases-loop-at
-decreases-loop-at l = length l.s - l.at
+abbrev pub decreases-loop-next : goal.decreases-loop-next
+decreases-loop-next l = length l.s - l.next.at

@@ -1,25 +1,21 @@
-use native.Mathlib.Omega.{arith}
-use Rattle.rules.proofs.HeaderRunLaws.{first_ended, first-refused, headers-refused}
+use mathlib.Core.Path.{sym, ◌∙◌}
+use Rattle.rules.proofs.ExitLaws.{goes-on, ends}
+use Rattle.rules.proofs.HeaderRunLaws.{first_ended, first-refused}
 use Rattle.rules.proofs.heads.read_headers.Goals as goal
 
-pub returns-then-s-start : goal.returns-then-s-start
-returns-then-s-start c =
-    headers-refused _ _ _ _ _ _ _ c.headers_refused.ensures (λ z. omega arith) (first_ended c.args.s.now c.args.start c.args.first c.if-s-start.true)
+pub returns-then-s-from : goal.returns-then-s-from
+returns-then-s-from c = rw c.line_due.ensures (first_ended c.args.s.now c.args.from c.if-s-from.true)
 
-pub returns-then-h-ne0 : goal.returns-then-h-ne0
-returns-then-h-ne0 c =
-    headers-refused _ _ _ _ _ _ _ c.headers_refused-then-h-ne0.ensures c.if-h-ne0.true
-    (first-refused c.args.s.now c.args.start c.args.first c.if-s-start.false (c.requires.2 c.if-s-start.false) _ c.first_header-h.ensures c.if-h-ne0.true)
+pub returns-in_err-h : goal.returns-in_err-h
+returns-in_err-h c =
+    let w = ends _ _ c.from_residual.result _ _ c.on_line.ensures c.in_err-h.was c.from_residual.ensures.1 in
+    rw w.2 (first-refused c.args.s.now c.args.from c.if-s-from.false (c.requires.2 c.if-s-from.false) _ (sym c.first_header.ensures ∙ w.1))
 
 pub more_headers-requires : goal.more_headers-requires
 more_headers-requires c =
     record {
-      inside = c.if-s-start.false;
+      inside = c.if-s-from.false;
       few = c.requires.1;
-      apart = c.requires.2 c.if-s-start.false;
-      read = c.first_header-h.ensures;
-      good = c.if-h-ne0.false;
+      apart = c.requires.2 c.if-s-from.false;
+      read = sym c.first_header.ensures ∙ goes-on _ _ _ _ c.on_line.ensures c.in_ok-h.was;
     }
-
-pub returns : goal.returns
-returns c = c.more_headers.ensures

@@ -1,4 +1,0 @@
-use Rattle.walk.proofs.at_end.Goals as goal
-
-pub returns : goal.returns
-returns c = c.on_cell.ensures
