@@ -11,15 +11,14 @@ use lib.Dec.{eqb, leb}
 use borrow.Author.Tests.{ne_eqb, le-leb, lt-leb}
 use Rattle.verdicts.specs.declared.Judged.{Judged}
 use Rattle.line_bytes.specs.Bytes.{is_digit, every, numeral}
-use Rattle.line_bytes.specs.Cells.{cell_at, cell_end}
-use Rattle.line_bytes.specs.Spaces.{trim}
+use Rattle.line_bytes.specs.Cells.{cell_end}
 use Rattle.verdicts.specs.Verdicts.{Verdict, wrong, good}
 use Rattle.verdicts.specs.Decimals.{front, fraction, settle, unsigned_of, decimal_of}
-use Rattle.verdicts.specs.Judge.{unless_blank, judged_of}
+use Rattle.verdicts.specs.Judge.{judged_of}
 use Rattle.line_bytes.specs.Inner.Scans.{Stop}
-use Rattle.cells.specs.Inner.Runs.{Written, Spaced, Counted, body, closing}
+use Rattle.cells.specs.Inner.Runs.{Written, Begun, Counted, body, closing}
 use Rattle.line_bytes.proofs.CellLaws.{is_end, inside-cell, cell_end_in}
-use Rattle.cells.proofs.ScanLaws.{body_solid, body-digit, body-first, cell_end_digits, judged_solid}
+use Rattle.cells.proofs.ScanLaws.{body_solid, body-digit, body-first, cell_end_digits}
 
 -- The number v so far, b digits before the point and a after it; the flag says that the point was seen.
 unfoldable dec : Bool → ℕ → ℕ → ℕ → Bool → List ℕ → Verdict
@@ -196,22 +195,21 @@ module _ {c : ℕ} {s : List ℕ} {p e q v : ℕ} (t : Stop c s p e) (r : Counte
           rw (done, settle-good m w (q - p) (f - (q + 1)) b u (omega arith), past) (rw j at h)
 
 -- ---- the sign
-module _ {c : ℕ} {s : List ℕ} {i e a : ℕ} (t : Stop c s i e) (r : Spaced s i e a) (d : is_end c (get_or s a 0) ≡ false) (x : Judged) where
+module _ {c : ℕ} {s : List ℕ} {e a : ℕ} (t : Stop c s a e) (r : Begun c s a e) (x : Judged) where
   signed : (z y : Bool) (p : ℕ) → p ≡ cond (z || y) (a + 1) a
       → cond z (unsigned_of true (body c s (a + 1))) (cond y (unsigned_of false (body c s (a + 1))) (unsigned_of false (get_or s a 0 ∷ body c s (a + 1))))
       ≡ unsigned_of z (body c s p)
   signed true y p h = rw h
   signed false true p h = rw h
-  signed false false p h = rw (h, body_solid c s a (omega arith) d r.stops)
+  signed false false p h = rw (h, body_solid c s a (omega arith) r.inside r.solid)
 
   after : (z : Bool) (p : ℕ) → p ≡ cond z (a + 1) a → cell_end c s a ≡ cell_end c s p
-  after true p h = rw h (cell_end_in s a (omega arith) c d)
+  after true p h = rw h (cell_end_in s a (omega arith) c r.inside)
   after false p h = rw h
 
   pub decimal-signed : (p : ℕ) → p ≡ cond (eqb (get_or s a 0) 45 || eqb (get_or s a 0) 43) (a + 1) a
       → x ≡ judged_of (cell_end c s p) (unsigned_of (eqb (get_or s a 0) 45) (body c s p))
-      → x ≡ judged_of (cell_end c s i) (unless_blank decimal_of (trim (cell_at c s i)))
+      → x ≡ judged_of (cell_end c s a) (decimal_of (body c s a))
   unfolding decimal_of
   decimal-signed p h g =
-      judged_solid t r decimal_of x d
-      (rw (body_solid c s a (omega arith) d r.stops, signed (eqb (get_or s a 0) 45) (eqb (get_or s a 0) 43) p h, after (eqb (get_or s a 0) 45 || eqb (get_or s a 0) 43) p h) g)
+      rw (body_solid c s a (omega arith) r.inside r.solid, signed (eqb (get_or s a 0) 45) (eqb (get_or s a 0) 43) p h, after (eqb (get_or s a 0) 45 || eqb (get_or s a 0) 43) p h) g

@@ -1,5 +1,5 @@
 -- Whole numbers, flags, key texts, dates and times by what is left of their cells.
-use Prim.Native.Nat.{ℕ, suc, ◌+◌, ◌-◌, ◌/◌, ◌%◌, ◌≤◌, ◌<◌}
+use Prim.Native.Nat.{ℕ, zero, suc, ◌+◌, ◌-◌, ◌/◌, ◌%◌, ◌≤◌, ◌<◌}
 use mathlib.Core.Path.{◌≡◌, refl, sym, ◌∙◌}
 use mathlib.Core.List.{List, [], ◌∷◌}
 use mathlib.Core.Bool.{Bool, true, false, cond, not, ◌&&◌, ◌||◌, and-false, true≢false}
@@ -8,21 +8,53 @@ use native.Mathlib.Nat.{add-zero, zero-add}
 use native.Mathlib.Omega.{arith}
 use lib.ListN.{length, get_or}
 use lib.Dec.{eqb, leb, ltb}
-use borrow.Author.Tests.{eqb-true, eqb-false, eq-eqb, ne_eqb, le-leb, lt-leb, ltb-true, ltb-false}
+use borrow.Author.Tests.{lt-ltb, eqb-true, eqb-false, eq-eqb, ne_eqb, le-leb, lt-leb, ltb-true, ltb-false}
 use Rattle.verdicts.specs.declared.Judged.{Judged}
 use Rattle.line_bytes.specs.Bytes.{is_space, is_digit, every, equal, numeral}
-use Rattle.line_bytes.specs.Cells.{cell_end}
-use Rattle.verdicts.specs.Verdicts.{Verdict, wrong, out_of_range, good}
+use Rattle.line_bytes.specs.Cells.{cell_at, cell_end}
+use Rattle.verdicts.specs.Verdicts.{Verdict, blank, wrong, out_of_range, good}
+use Rattle.verdicts.specs.Kinds.{kind_of}
 use Rattle.verdicts.specs.Dates.{is_date}
-use Rattle.verdicts.specs.Judge.{whole_of, in_set, in_flags, key_byte, key_text_of, date_of, clock_of, time_of, judged_of}
+use Rattle.verdicts.specs.Judge.{is_free, of_kind, judge, whole_of, in_set, in_flags, key_byte, key_text_of, date_of, clock_of, time_of, judged_of}
 use Rattle.verdicts.specs.Inner.Ranges.{within_of}
 use Rattle.line_bytes.specs.Inner.Scans.{Stop}
-use Rattle.cells.specs.Inner.Runs.{Written, Counted, Worded, word_byte, body, closing}
+use Rattle.cells.specs.Inner.Runs.{Written, Spaced, Counted, Worded, word_byte, body, closing}
 use Rattle.line_bytes.proofs.CellLaws.{is_end, inside-cell, stop_moved, stop-inside, cell_end_in, scan_undo}
 use Rattle.line_bytes.proofs.DigitLaws.{digit_range, digit_low, digit-high, digit_yes}
-use Rattle.cells.proofs.ScanLaws.{word-inside, word-outside, body_end, body_solid, body-digit, body-first, cell_end_digits}
+use Rattle.cells.proofs.ScanLaws.{judged-blank, word-inside, word-outside, body_end, body_solid, body-digit, body-first, cell_end_digits}
 use Rattle.cells.proofs.DecimalLaws.{closing-wrong}
 use Rattle.verdicts.proofs.KindLaws.{sized, in_year, in_day}
+
+-- ---- a kind that asks for a text: a cell without one is blank
+kind_asks : (k : ℕ) → k < 11 → is_free (kind_of k) ≡ false
+unfolding kind_of
+kind_asks zero l = refl
+kind_asks (suc zero) l = refl
+kind_asks (suc (suc zero)) l = refl
+kind_asks (suc (suc (suc zero))) l = refl
+kind_asks (suc (suc (suc (suc zero)))) l = refl
+kind_asks (suc (suc (suc (suc (suc zero))))) l = refl
+kind_asks (suc (suc (suc (suc (suc (suc zero)))))) l = refl
+kind_asks (suc (suc (suc (suc (suc (suc (suc zero))))))) l = refl
+kind_asks (suc (suc (suc (suc (suc (suc (suc (suc zero)))))))) l = refl
+kind_asks (suc (suc (suc (suc (suc (suc (suc (suc (suc zero))))))))) l = refl
+kind_asks (suc (suc (suc (suc (suc (suc (suc (suc (suc (suc zero)))))))))) l = refl
+kind_asks (suc (suc (suc (suc (suc (suc (suc (suc (suc (suc (suc k))))))))))) l = absurd (omega arith)
+
+-- by the code's test, whose first half is b: d is whether a cell ends there
+pub text_asked : (b d : Bool) (k : ℕ) → b ≡ d → (b && ltb k 11) ≡ false → k < 11 → d ≡ false
+text_asked b d k e h l = sym e ∙ go b h
+  where
+    go : (b : Bool) → (b && ltb k 11) ≡ false → b ≡ false
+    go true h = absurd (true≢false (sym (lt-ltb k 11 l) ∙ h))
+    go false h = refl
+
+module _ {c : ℕ} {s : List ℕ} {i e a : ℕ} (t : Stop c s i e) (r : Spaced s i e a) (k : ℕ) (x : Judged) where
+  pub kind-blank : (b : Bool) → b ≡ is_end c (get_or s a 0) → (b && ltb k 11) ≡ true → x ≡ judged_of a blank
+      → x ≡ judged_of (cell_end c s i) (judge (kind_of k) (cell_at c s i))
+  unfolding judge
+  kind-blank true d h g = rw (kind_asks k (ltb-true k 11 h)) (judged-blank t r (of_kind (kind_of k)) x (sym d) g)
+  kind-blank false d h g = absurd (true≢false (sym h))
 
 -- ---- a text of digits: what a run of them leaves of it
 module _ {c : ℕ} {s : List ℕ} {j e : ℕ} (t : Stop c s j e) where

@@ -17,10 +17,18 @@ use Rattle.line_bytes.specs.Spaces.{trim_front, keep, trim_end, trim}
 use Rattle.verdicts.specs.Verdicts.{Verdict, blank, wrong}
 use Rattle.verdicts.specs.Judge.{key_byte, unless_blank, judged_of}
 use Rattle.line_bytes.specs.Inner.Scans.{Stop, Scan}
-use Rattle.cells.specs.Inner.Runs.{Written, Spaced, word_byte, body, closing}
-use Rattle.line_bytes.proofs.CellLaws.{is_end, inside-cell, stop-inside, cell_in_lem, cell-end, cell_end_in, cell_end-end, scan_undo}
+use Rattle.cells.specs.declared.scans.Line.{Line}
+use Rattle.cells.specs.Inner.Runs.{Written, Spaced, Begun, word_byte, body, closing}
+use Rattle.line_bytes.proofs.CellLaws.{is_end, inside-cell, stop_moved, stop-inside, cell_in_lem, cell-end, cell_end_in, cell_end-end, scan_undo}
 use Rattle.line_bytes.proofs.DigitLaws.{digit_range}
 use Rattle.verdicts.proofs.SizeLaws.{numeral_scaled}
+
+-- ---- a place of a line
+pub stop_on : (l : Line) {i : ℕ} → i ≤ l.end → Stop l.separator l.bytes.now i l.end
+stop_on l h = record { inside = h; room = l.room; feed = l.feed; parts = l.parts }
+
+pub begun_on : (l : Line) {a : ℕ} → Begun l.separator l.bytes.now a l.end → Stop l.separator l.bytes.now a l.end
+begun_on l b = stop_on l (omega arith)
 
 -- ---- the bytes of a run stand inside a cell
 space-inside : (c x : ℕ) → separates c ≡ true → is_space x ≡ true → is_end c x ≡ false
@@ -76,7 +84,7 @@ module _ {c : ℕ} {s : List ℕ} {j e : ℕ} (t : Stop c s j e) where
   space-within p d = space-inside c (get_or s p 0) t.parts d
 
   -- ---- spaces
-  cell_end_spaces : {i q : ℕ} → Scan is_space s i q → cell_end c s i ≡ cell_end c s q
+  pub cell_end_spaces : {i q : ℕ} → Scan is_space s i q → cell_end c s i ≡ cell_end c s q
   cell_end_spaces {i} {q} r =
       scan_undo (λ (p : ℕ). cell_end c s p ≡ cell_end c s q) (λ p l d x. cell_end_in s p l c (space-within p d) ∙ x) r refl
 
@@ -122,11 +130,15 @@ module _ {c : ℕ} {s : List ℕ} {i e a : ℕ} (t : Stop c s i e) (r : Spaced s
           → trim_front (body c s p) ≡ trim_front (body c s a)
       one p l d x = rw (body-keep c s p l (space-within t p d)) (trim_front-keep (get_or s p 0) (body c s (p + 1)) d ∙ x)
 
+  pub begun_at : is_end c (get_or s a 0) ≡ false → Begun c s a e
+  begun_at d = record { short = stop-inside (stop_moved t r.high) d; inside = d; solid = r.stops }
+
   module _ (f : List ℕ → Verdict) (x : Judged) where
-    pub judged-blank : is_end c (get_or s a 0) ≡ true → x ≡ judged_of (cell_end c s a) blank
+    pub judged-blank : is_end c (get_or s a 0) ≡ true → x ≡ judged_of a blank
         → x ≡ judged_of (cell_end c s i) (unless_blank f (trim (cell_at c s i)))
     unfolding trim_front
-    judged-blank d h = rw (trim_spaces, body_end c s a (omega arith) d, cell_end_spaces t r.over) h
+    judged-blank d h =
+        rw (trim_spaces, body_end c s a (omega arith) d, cell_end_spaces t r.over, cell_end-end s a (omega arith) c d) h
 
     pub judged_solid : is_end c (get_or s a 0) ≡ false → x ≡ judged_of (cell_end c s a) (f (body c s a))
         → x ≡ judged_of (cell_end c s i) (unless_blank f (trim (cell_at c s i)))

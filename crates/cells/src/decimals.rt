@@ -1,126 +1,85 @@
-// A decimal in one pass: spaces, sign, digits, point, digits, spaces; and the ends that every kind of cell has: blank, not of its kind, closed.
-ghost use Rattle.std.specs.Prelude.{◌≡◌, cond, ◌||◌, ◌+◌, ◌-◌, ◌≤◌, ◌<◌, eqb};
-ghost use Rattle.line_bytes.specs.Cells.{cell_end, cell_at};
-ghost use Rattle.line_bytes.specs.Spaces.{trim};
-ghost use Rattle.verdicts.specs.Verdicts.{blank, wrong, good};
+// A decimal in one pass: sign, digits, point, digits, spaces; and the ends that a cell of any kind has: not of its kind, closed.
+ghost use Rattle.std.specs.Prelude.{◌≡◌, cond, ◌||◌, ◌+◌, ◌≤◌, ◌<◌, get_or, eqb};
+ghost use Rattle.line_bytes.specs.Cells.{cell_end};
+ghost use Rattle.verdicts.specs.Verdicts.{wrong, good};
 ghost use Rattle.verdicts.specs.Decimals.{unsigned_of, decimal_of};
-ghost use Rattle.verdicts.specs.Judge.{unless_blank, judged_of};
-ghost use Rattle.line_bytes.specs.Inner.Scans.{Stop};
-ghost use Rattle.cells.specs.Inner.Runs.{body, closing};
+ghost use Rattle.verdicts.specs.Judge.{judged_of};
+ghost use Rattle.cells.specs.Inner.Runs.{Begun, body, closing};
 
-use crate::scans::{digits, spaces, text_end};
+use crate::scans::Line;
 use line_bytes::{limits, refusals};
 use verdicts::{Judged, last_place};
 
-// A cell that is blank, and one that is not of its kind; what is left of it goes on at q.
-pub fn blank_cell(s: &[u8], q: usize, e: usize, separator: u8) -> Judged
-    requires { Stop separator s.now q e }
-    ensures { result ≡ judged_of (cell_end separator s.now q) blank }
-{
-    Judged {
-        at: text_end(s, q, e, separator),
-        number: refusals::BLANK,
-        minus: false,
-        size: 0,
-        decimals: 0,
+impl<'a> Line<'a> {
+    // A cell that is not of its kind; what is left of it goes on at q.
+    pub fn wrong(self, q: usize) -> Judged
+        requires { q ≤ self.end }
+        ensures { result ≡ judged_of (cell_end self.entry.separator self.entry.bytes.now q) wrong }
+    {
+        Judged::refused(self.text_end(q), refusals::NOT_OF_ITS_KIND)
     }
-}
 
-pub fn wrong_cell(s: &[u8], q: usize, e: usize, separator: u8) -> Judged
-    requires { Stop separator s.now q e }
-    ensures { result ≡ judged_of (cell_end separator s.now q) wrong }
-{
-    Judged {
-        at: text_end(s, q, e, separator),
-        number: refusals::NOT_OF_ITS_KIND,
-        minus: false,
-        size: 0,
-        decimals: 0,
-    }
-}
-
-// The spaces after a cell's text, and its end: nothing else may be left.
-pub fn close(
-    s: &[u8],
-    q: usize,
-    e: usize,
-    separator: u8,
-    minus: bool,
-    size: u64,
-    decimals: u64,
-) -> Judged
-    requires { Stop separator s.now q e }
-    ensures { result ≡ judged_of (cell_end separator s.now q) (closing (good minus size decimals) (body separator s.now q)) }
-{
-    let r = spaces(s, q, e, separator);
-    let b = s[r];
-    if (b == separator) | (b == b'\n') {
-        Judged {
-            at: r,
-            number: 0,
-            minus,
-            size,
-            decimals,
-        }
-    } else {
-        wrong_cell(s, r, e, separator)
-    }
-}
-
-// The digits and the point, after the sign.
-fn unsigned(s: &[u8], p: usize, e: usize, separator: u8, minus: bool) -> Judged
-    requires { Stop separator s.now p e }
-    ensures { result ≡ judged_of (cell_end separator s.now p) (unsigned_of minus (body separator s.now p)) }
-{
-    let w = digits(s, p, e, separator, p + 10, 0);
-    let q = w.at;
-    let v = w.v;
-    if 9 < q - p {
-        wrong_cell(s, q, e, separator)
-    } else if s[q] != b'.' {
-        if q == p {
-            wrong_cell(s, q, e, separator)
-        } else {
-            close(s, q, e, separator, minus, v * limits::ONE, 0)
-        }
-    } else {
-        let f = digits(s, q + 1, e, separator, q + 8, v);
-        let r = f.at;
-        let after = r - (q + 1);
-        if 6 < after {
-            wrong_cell(s, r, e, separator)
-        } else if r - p == 1 {
-            wrong_cell(s, r, e, separator)
-        } else {
-            close(
-                s,
-                r,
-                e,
-                separator,
+    // The spaces after a cell's text, and its end: nothing else may be left.
+    pub fn close(self, q: usize, minus: bool, size: u64, decimals: u64) -> Judged
+        requires { q ≤ self.end }
+        ensures { result ≡ judged_of (cell_end self.entry.separator self.entry.bytes.now q) (closing (good minus size decimals) (body self.entry.separator self.entry.bytes.now q)) }
+    {
+        let r = self.spaces(q);
+        if self.ends(r) {
+            Judged {
+                at: r,
+                number: 0,
                 minus,
-                f.v * last_place(after as u64),
-                after as u64,
-            )
+                size,
+                decimals,
+            }
+        } else {
+            self.wrong(r)
         }
+    }
+
+    // The digits and the point, after the sign.
+    fn unsigned(self, p: usize, minus: bool) -> Judged
+        requires { p ≤ self.end }
+        ensures { result ≡ judged_of (cell_end self.entry.separator self.entry.bytes.now p) (unsigned_of minus (body self.entry.separator self.entry.bytes.now p)) }
+    {
+        let w = self.digits(p, p + 10, 0);
+        let q = w.at;
+        let v = w.v;
+        if 9 < q - p {
+            self.wrong(q)
+        } else if self.bytes[q] != b'.' {
+            if q == p {
+                self.wrong(q)
+            } else {
+                self.close(q, minus, v * limits::ONE, 0)
+            }
+        } else {
+            let f = self.digits(q + 1, q + 8, v);
+            let r = f.at;
+            let after = r - (q + 1);
+            if 6 < after {
+                self.wrong(r)
+            } else if r - p == 1 {
+                self.wrong(r)
+            } else {
+                self.close(r, minus, f.v * last_place(after as u64), after as u64)
+            }
+        }
+    }
+
+    pub fn decimal(self, a: usize) -> Judged
+        requires { Begun self.separator self.bytes.now a self.end }
+        ensures { result ≡ judged_of (cell_end self.entry.separator self.entry.bytes.now a) (decimal_of (body self.entry.separator self.entry.bytes.now a)) }
+    {
+        let b = self.bytes[a];
+        self.unsigned(after_sign(a, self.end, b), b == b'-')
     }
 }
 
 fn after_sign(a: usize, e: usize, b: u8) -> usize
     requires { a < e }
-    ensures { (result ≡ cond (eqb b 45 || eqb b 43) (a + 1) a) × (result ≤ a + 1) }
+    ensures { (result ≡ cond (eqb b 45 || eqb b 43) (a + 1) a) × (result ≤ e) }
 {
     if (b == b'-') | (b == b'+') { a + 1 } else { a }
-}
-
-pub fn decimal(s: &[u8], i: usize, e: usize, separator: u8) -> Judged
-    requires { Stop separator s.now i e }
-    ensures { result ≡ judged_of (cell_end separator s.now i) (unless_blank decimal_of (trim (cell_at separator s.now i))) }
-{
-    let a = spaces(s, i, e, separator);
-    let b = s[a];
-    if (b == separator) | (b == b'\n') {
-        blank_cell(s, a, e, separator)
-    } else {
-        unsigned(s, after_sign(a, e, b), e, separator, b == b'-')
-    }
 }

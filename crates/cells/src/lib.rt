@@ -7,8 +7,8 @@ ghost use Rattle.std.specs.Prelude.{◌≡◌};
 ghost use Rattle.verdicts.specs.Judge.{judged_at, whole_at};
 ghost use Rattle.verdicts.specs.Rows.{cells_at};
 
-use verdicts::notes::no_cells;
-use verdicts::ranges::no_cell;
+use line_bytes::refusals;
+use scans::Line;
 use verdicts::{CellsRead, Judged, stops};
 
 mod decimals;
@@ -21,9 +21,14 @@ pub fn judge_cells<'a>(s: &'a [u8], i: usize, e: usize, separator: u8, kinds: &'
     ensures { result ≡ cells_at kinds.now separator s.now i e }
 {
     if stops(s, i, e, separator) {
-        rows::from_left(s, i, e, separator, kinds)
+        let line = Line {
+            bytes: s,
+            end: e,
+            separator,
+        };
+        line.cells(i, kinds)
     } else {
-        no_cells(i)
+        CellsRead::none(i)
     }
 }
 
@@ -31,8 +36,7 @@ pub fn judge_cells<'a>(s: &'a [u8], i: usize, e: usize, separator: u8, kinds: &'
 pub fn judge(s: &[u8], i: usize, e: usize, separator: u8, kind: u8) -> Judged
     ensures { result ≡ judged_at kind separator s.now i e }
 {
-    let kinds = [kind; 1];
-    let r = judge_cells(s, i, e, separator, &kinds);
+    let r = judge_cells(s, i, e, separator, &[kind]);
     Judged {
         at: r.at,
         number: r.number,
@@ -46,10 +50,14 @@ pub fn judge(s: &[u8], i: usize, e: usize, separator: u8, kind: u8) -> Judged
 pub fn whole(s: &[u8], i: usize, e: usize, separator: u8, most: usize) -> Judged
     ensures { result ≡ whole_at most separator s.now i e }
 {
-    if most <= 9 {
-        if stops(s, i, e, separator) {
-            return judging::whole_number(s, i, e, separator, most);
-        }
+    if (most <= 9) & stops(s, i, e, separator) {
+        let line = Line {
+            bytes: s,
+            end: e,
+            separator,
+        };
+        line.whole_cell(i, most)
+    } else {
+        Judged::refused(i, refusals::NOT_OF_ITS_KIND)
     }
-    no_cell(i)
 }

@@ -1,37 +1,34 @@
 // The cells of a line, judged from the left by their kinds.
-ghost use Rattle.std.specs.Prelude.{◌≡◌};
+ghost use Rattle.std.specs.Prelude.{◌≡◌, ◌≤◌};
 ghost use Rattle.line_bytes.specs.Cells.{pieces, line_at};
 ghost use Rattle.verdicts.specs.Rows.{no_keys, cells_from};
-ghost use Rattle.line_bytes.specs.Inner.Scans.{Stop};
 
-use crate::judging::by_kind;
-use verdicts::CellsRead;
-use verdicts::notes::{ended, keys_of, missing_of, no_cells, note};
+use crate::scans::Line;
+use verdicts::notes::missing_of;
+use verdicts::{CellsRead, Keys};
 
-// The cells from i on, one for each kind, up to the first refused one or the line feed at e.
-pub fn from_left(s: &[u8], i: usize, e: usize, separator: u8, kinds: &[u8]) -> CellsRead
-    requires { Stop separator s.now i e }
-    ensures { result ≡ cells_from i i 0 0 no_keys kinds.now (pieces separator (line_at s.now i)) }
-{
-    let n = kinds.len();
-    let mut at = i;
-    let mut missing: u64 = 0;
-    let mut keys = [0u64; 5];
-    let mut k = 0;
-    while k < n {
-        let kind = kinds[k];
-        let j = by_kind(s, at, e, separator, kind);
-        let q = j.at;
-        if j.number != 0 {
-            return ended(at, k, missing, keys_of(&keys), j);
+impl<'a> Line<'a> {
+    // The cells from i on, one for each kind, up to the first refused one or the line feed.
+    pub fn cells(self, i: usize, kinds: &[u8]) -> CellsRead
+        requires { i ≤ self.end }
+        ensures { result ≡ cells_from i i 0 0 no_keys kinds.now (pieces self.entry.separator (line_at self.entry.bytes.now i)) }
+    {
+        let mut at = i;
+        let mut missing: u64 = 0;
+        let mut keys = Keys::NONE;
+        for (k, kind) in kinds.iter().enumerate() {
+            let j = self.judged(at, *kind);
+            let q = j.at;
+            if j.number != 0 {
+                return CellsRead::ended(at, k, missing, keys, j);
+            }
+            missing += missing_of(*kind, j);
+            keys.note(*kind, at, q, j.size);
+            if (self.bytes[q] == b'\n') | (k + 1 == kinds.len()) {
+                return CellsRead::ended(at, k + 1, missing, keys, j);
+            }
+            at = q + 1;
         }
-        missing += missing_of(kind, j);
-        note(&mut keys, kind, at, q, j.size);
-        k += 1;
-        if (s[q] == b'\n') | (k == n) {
-            return ended(at, k, missing, keys_of(&keys), j);
-        }
-        at = q + 1;
+        CellsRead::none(i)
     }
-    no_cells(i)
 }

@@ -73,7 +73,7 @@ pub fn kind_in(s: &[u8], at: usize, column: u64) -> u8
 pub fn column_in<'a>(s: &'a [u8], at: usize, name: &'a [u8]) -> u64
     ensures { result ≡ column_in_line (line_at s.now at) name.now }
 {
-    column_where(s, at, |column| text::same(column, name))
+    column_where(s, at, |other| text::same(other, name))
 }
 
 // The number of the flag column of a column, both counted from 1, of the names line that starts at `at`; 0 where there is none.
@@ -81,7 +81,7 @@ pub fn flag_column(s: &[u8], at: usize, column: u64) -> u64
     ensures { result ≡ flag_in_line (line_at s.now at) column }
 {
     let name = name_in(s, at, column);
-    column_where(s, at, |column| is_flag_of(column, name))
+    column_where(s, at, |other| is_flag_of(other, name))
 }
 
 // The places of the cells of the names line, 256 at the most; where there is one more, where it starts.

@@ -73,11 +73,7 @@ pub fn decide(file: &[u8], order: Order) -> Result<CellPlaces, Refusal>
         });
     }
     if let Some(number) = broken_rule(at, order) {
-        return Err(Refusal {
-            number,
-            line: 0,
-            column: 0,
-        });
+        return Err(Refusal::nowhere(number));
     }
     Ok(CellPlaces {
         value: at.value,

@@ -28,21 +28,10 @@ pub struct Cell {
 pub fn find_cell(file: &[u8], row: u64, column: u64) -> Result<Cell, Refusal>
     ensures { AskedRead file.now row column result }
 {
-    let o = open_file(file);
+    let o = open_file(file).accepted()?;
     let checked = o.checked;
-    if checked.number != 0 {
-        return Err(Refusal {
-            number: checked.number,
-            line: checked.line,
-            column: checked.column,
-        });
-    }
     if (row < 1) | (checked.rows < row) | (column < 1) | (checked.columns < column) {
-        return Err(Refusal {
-            number: refusals::NO_SUCH_PLACE,
-            line: 0,
-            column: 0,
-        });
+        return Err(Refusal::nowhere(refusals::NO_SUCH_PLACE));
     }
     let at = line_start(file, o.first, (row - 1) as usize);
     Ok(Cell {

@@ -2,7 +2,7 @@
 
 #![tactic(auto)]
 
-ghost use Rattle.std.specs.Prelude.{◌≡◌};
+ghost use Rattle.std.specs.Prelude.{◌≡◌, MatchResult};
 
 use text::{Reading, Span};
 
@@ -19,6 +19,19 @@ pub struct Refusal {
     pub number: u64,
     pub line: u64,
     pub column: u64,
+}
+
+impl Refusal {
+    // Refused by a number, with no place in the file.
+    pub fn nowhere(number: u64) -> Refusal
+        ensures { result ≡ record { number = number; line = 0; column = 0 } }
+    {
+        Refusal {
+            number,
+            line: 0,
+            column: 0,
+        }
+    }
 }
 
 impl BrokenRule {
@@ -66,6 +79,25 @@ pub struct Opened {
     pub headers: usize,
     pub names: usize,
     pub first: usize,
+}
+
+impl Opened {
+    // The file opened, where it is accepted; else its refusal.
+    pub fn accepted(self) -> Result<Opened, Refusal>
+        ensures { MatchResult result
+            (λ o. (o ≡ self) × (o.checked.number ≡ 0))
+            (λ r. (self.checked.number ≡ 0 → ⊥) × (r ≡ record { number = self.checked.number; line = self.checked.line; column = self.checked.column })) }
+    {
+        let c = self.checked;
+        if c.number != 0 {
+            return Err(Refusal {
+                number: c.number,
+                line: c.line,
+                column: c.column,
+            });
+        }
+        Ok(self)
+    }
 }
 
 // The number of a column, from 1; or the refusal.

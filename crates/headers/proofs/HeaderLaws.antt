@@ -197,11 +197,11 @@ module _ (s : List ℕ) (i : ℕ) (e : named_fault_at s i ≡ clean) where
       let r : record { end = i + length (line_at s i); equals = i + length (raw_name (line_at s i)) } ≡ h = (let z = rw p at d in cc) in
       subst (λ (x : Header). HeaderKept f s i x.equals x.end) r (rw p named-kept)
 
-  first-line-kept : (f : Fault) → f ≡ clean → (h : FirstHeader) → first_header_for f s i ≡ Ok h → HeaderKept f s i h.equals h.end
+  first-line-kept : (f : Fault) → f ≡ clean → (h : FirstHeader) → first_header_for f s i ≡ Ok h → HeaderKept f s i h.header.equals h.header.end
   unfolding first_header_for
   first-line-kept f p h d =
-      let r : record { end = i + length (line_at s i); equals = i + length (raw_name (line_at s i)); said = headers_said (line_at s i) } ≡ h = (let z = rw p at d in cc) in
-      subst (λ (x : FirstHeader). HeaderKept f s i x.equals x.end) r (rw p named-kept)
+      let r : record { header = record { end = i + length (line_at s i); equals = i + length (raw_name (line_at s i)) }; said = headers_said (line_at s i) } ≡ h = (let z = rw p at d in cc) in
+      subst (λ (x : FirstHeader). HeaderKept f s i x.header.equals x.header.end) r (rw p named-kept)
 
 -- what is had of the line up to its name
 module _ (s : List ℕ) (i : ℕ) (h : Header) (e : header_for (named_fault_at s i) s i ≡ Ok h) where
@@ -383,7 +383,7 @@ module _ (s : List ℕ) (i : ℕ) where
         let b = then-clean (header_name_rule (line_at s i)) _ a.1 in
         (b.0, (then-clean (unless (ltb 0 (headers_said (line_at s i))) 8 1) clean b.1).0, a.0)
 
-    pub first-kept : HeaderKept (first_header_fault_at s i) s i r.equals r.end
+    pub first-kept : HeaderKept (first_header_fault_at s i) s i r.header.equals r.header.end
     first-kept = first-line-kept s i (ap (λ (g : Fault). g then header_name_rule (line_at s i)) apart.2 ∙ apart.0) (first_header_fault_at s i) first-clean r e
 
     pub first_said : (r.said ≡ headers_said (line_at s i)) × (0 < r.said) × (r.said ≤ 64)
@@ -419,13 +419,13 @@ module _ (s : List ℕ) (i : ℕ) where
         go true e = absurd cc
         go false e = refl
 
-    pub first_good : (n : ℕ) → o ≡ Some n → ◌≡◌ {A = Result FirstHeader BrokenRule} (Ok (record { end = h.end; equals = h.equals; said = n })) (first_header_for (first_header_fault_at s i) s i)
+    pub first_good : (n : ℕ) → o ≡ Some n → ◌≡◌ {A = Result FirstHeader BrokenRule} (Ok (record { header = h; said = n })) (first_header_for (first_header_fault_at s i) s i)
     unfolding first_header_for
     first_good n k =
         let d = go (ltb 0 (headers_said (line_at s i))) (sym eo ∙ k) in
         let f : first_header_fault_at s i ≡ clean = first_rules ∙ d.1 in
         let w = (named-read s i h z).parted in
-        (λ j. Ok (record { end = w.end j; equals = w.equals j; said = d.0 j })) ∙ ap (λ (g : Fault). first_header_for g s i) (sym f)
+        (λ j. Ok (record { header = record { end = w.end j; equals = w.equals j }; said = d.0 j })) ∙ ap (λ (g : Fault). first_header_for g s i) (sym f)
       where
         go : (b : Bool) → cond b (Some (headers_said (line_at s i))) None ≡ Some n → (n ≡ headers_said (line_at s i)) × (unless b 8 1 ≡ clean)
         go true e = (cc, refl)

@@ -17,7 +17,7 @@ use text::{Span, kinds, refusals};
 pub const MOST_HEADERS: usize = 64;
 
 // The most bytes of a header's name.
-pub const MOST_NAME_BYTES: usize = 64;
+const MOST_NAME_BYTES: usize = 64;
 
 // A bad header line.
 const BAD_HEADER: BrokenRule = BrokenRule {
@@ -32,11 +32,10 @@ pub struct Header {
     pub equals: usize,
 }
 
-// The first header line: its line feed, its first = and how many headers it says.
+// The first header line, and how many headers it says.
 #[derive(Clone, Copy)]
 pub struct FirstHeader {
-    pub end: usize,
-    pub equals: usize,
+    pub header: Header,
     pub said: usize,
 }
 
@@ -87,15 +86,11 @@ fn headers_said(s: &[u8], at: usize, h: Header) -> Option<usize>
 pub fn first_header(s: &[u8], at: usize) -> Result<FirstHeader, BrokenRule>
     ensures { result ≡ first_header_for (first_header_fault_at s.now at) s.now at }
 {
-    let h = named_line(s, at)?;
-    let Some(said) = headers_said(s, at, h) else {
+    let header = named_line(s, at)?;
+    let Some(said) = headers_said(s, at, header) else {
         return Err(BAD_HEADER);
     };
-    Ok(FirstHeader {
-        end: h.end,
-        equals: h.equals,
-        said,
-    })
+    Ok(FirstHeader { header, said })
 }
 
 // The kind by which the value of a header of that name is judged: only the station names have one.

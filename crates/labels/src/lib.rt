@@ -16,12 +16,6 @@ use headers::equals_from;
 use rules::open_file;
 use text::{Span, refusals, trim_span};
 
-const NO_SUCH_PLACE: Refusal = Refusal {
-    number: refusals::NO_SUCH_PLACE,
-    line: 0,
-    column: 0,
-};
-
 // The number of the column of a name, compared as it is.
 pub fn column_named<'a>(file: &'a [u8], name: &'a [u8]) -> Named
     ensures { result ≡ named_of file.now name.now }
@@ -32,7 +26,7 @@ pub fn column_named<'a>(file: &'a [u8], name: &'a [u8]) -> Named
     };
     let place = column_in(file, o.names, name);
     if place == 0 {
-        return none_named(NO_SUCH_PLACE);
+        return none_named(Refusal::nowhere(refusals::NO_SUCH_PLACE));
     }
     Named {
         number: 0,
@@ -92,11 +86,11 @@ pub fn header_place(file: &[u8], k: u64) -> HeaderPlace
         Err(r) => return no_header(r),
     };
     if k == 0 {
-        return no_header(NO_SUCH_PLACE);
+        return no_header(Refusal::nowhere(refusals::NO_SUCH_PLACE));
     }
     let at = line_start(file, o.headers, (k - 1) as usize);
     if o.names <= at {
-        return no_header(NO_SUCH_PLACE);
+        return no_header(Refusal::nowhere(refusals::NO_SUCH_PLACE));
     }
     header_at(file, at)
 }
@@ -148,16 +142,7 @@ fn no_header(r: Refusal) -> HeaderPlace
 fn accepted(file: &[u8]) -> Result<Opened, Refusal>
     ensures { MatchResult result (λ o. (o ≡ opened_of file.now) × (o.checked.number ≡ 0)) (λ r. outcome_of file.now ≡ refused r.number r.line r.column) }
 {
-    let o = open_file(file);
-    let checked = o.checked;
-    if checked.number != 0 {
-        return Err(Refusal {
-            number: checked.number,
-            line: checked.line,
-            column: checked.column,
-        });
-    }
-    Ok(o)
+    open_file(file).accepted()
 }
 
 // The part of the file at a place in it; refusal gets number, line and column.

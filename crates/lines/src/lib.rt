@@ -2,7 +2,7 @@
 
 #![tactic(auto)]
 
-ghost use Rattle.std.specs.Prelude.{◌≡◌, true, ◌+◌, ◌^◌, min, ◌≤◌, ◌<◌, length, MatchResult};
+ghost use Rattle.std.specs.Prelude.{◌≡◌, true, ◌+◌, ◌^◌, ◌≤◌, ◌<◌, length, MatchResult};
 ghost use Rattle.format.specs.Faults.{clean, breaks};
 ghost use Rattle.line_bytes.specs.Inner.Scans.{Scan};
 ghost use Rattle.line_bytes.specs.Inner.Lines.{is_plain};
@@ -15,9 +15,9 @@ use grid::line_end;
 use text::refusals;
 
 // The most bytes of a line, and the column after them.
-pub const MOST_BYTES: usize = 8192;
+const MOST_BYTES: usize = 8192;
 
-pub const COLUMN_PAST: u64 = 8193;
+const COLUMN_PAST: u64 = 8193;
 
 // Whether the byte is one of 20 to 7E.
 fn is_plain(b: u8) -> bool
@@ -62,18 +62,6 @@ fn first_odd(s: &[u8], at: usize, limit: usize) -> usize
         i += 1;
     }
     i
-}
-
-// Where the search for the end of the line that starts at `at` ends: past as many bytes as a line may have, and one more.
-fn limit_of(n: usize, at: usize) -> usize
-    requires { at ≤ n }
-    ensures { result ≡ min n (at + 8193) }
-{
-    if MOST_BYTES < n - at {
-        at + MOST_BYTES + 1
-    } else {
-        n
-    }
 }
 
 // The broken rule of that number, shown at the byte i, which is counted from 1.
@@ -129,7 +117,8 @@ fn line_inside(s: &[u8], at: usize, control: bool) -> Result<usize, BrokenRule>
     requires { at < length s.now }
     ensures { result ≡ line_of control s.now at }
 {
-    let limit = limit_of(s.len(), at);
+    // The search for its end goes past as many bytes as a line may have, and one more.
+    let limit = s.len().min(at.saturating_add(MOST_BYTES + 1));
     let o = first_odd(s, at, limit);
     if o < limit && s[o] == b'\n' {
         return Ok(o);

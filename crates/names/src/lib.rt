@@ -53,12 +53,13 @@ pub fn first_fault<'a>(s: &'a [u8], places: &'a [Span]) -> Option<NameFault>
 {
     let mut found = None;
     'names: for k in 0..places.len() {
-        if !text::is_name(name_at(s, places, k)) {
+        let name = name_at(s, places, k);
+        if !text::is_name(name) {
             found = Some(NameFault::Bad(k));
             break 'names;
         }
         for j in 0..k {
-            if text::same(name_at(s, places, j), name_at(s, places, k)) {
+            if text::same(name_at(s, places, j), name) {
                 found = Some(NameFault::Repeated(k));
                 break 'names;
             }

@@ -57,10 +57,7 @@ fn cell_stop(s: &[u8], i: usize) -> usize
     if s.len() < i {
         return i;
     }
-    if s.len() - i <= NEAR {
-        return cell_end(s, i);
-    }
-    if ends_near(s, i) {
+    if s.len() - i <= NEAR || ends_near(s, i) {
         return cell_end(s, i);
     }
     cell_end(s, i + NEAR)

@@ -38,10 +38,9 @@ pub fn text_length(minus: bool, size: u64, decimals: u64) -> usize
 pub fn set_number(file: &mut [u8], cell: Span, minus: bool, size: u64, decimals: u64)
     ensures { file.new ≡ number_set file.old cell minus size decimals }
 {
-    if MOST_DECIMALS < decimals {
-        return;
-    }
-    if !lengths::has_room(file.len(), cell, text_length(minus, size, decimals)) {
+    if MOST_DECIMALS < decimals
+        || !lengths::has_room(file.len(), cell, text_length(minus, size, decimals))
+    {
         return;
     }
     let start = puts::put_text(file, cell.start + cell.len, minus, size, decimals);
@@ -52,10 +51,7 @@ pub fn set_number(file: &mut [u8], cell: Span, minus: bool, size: u64, decimals:
 pub fn set_digit(file: &mut [u8], cell: Span, digit: u64)
     ensures { file.new ≡ digit_set file.old cell digit }
 {
-    if LARGEST_DIGIT < digit {
-        return;
-    }
-    if !lengths::has_room(file.len(), cell, 1) {
+    if LARGEST_DIGIT < digit || !lengths::has_room(file.len(), cell, 1) {
         return;
     }
     let place = puts::put_byte(file, cell.start + cell.len, b'0' + (digit as u8));

@@ -12,12 +12,6 @@ use rows::{NO_KEYS, same_keys};
 use rules::open_file;
 use text::refusals;
 
-const NO_SUCH_PROFILE: Refusal = Refusal {
-    number: refusals::NO_SUCH_PLACE,
-    line: 0,
-    column: 0,
-};
-
 // The rows of a profile: the first row, and how many there are.
 #[derive(Clone, Copy)]
 pub struct Run {
@@ -98,18 +92,10 @@ pub struct ProfileAt {
 pub fn profile_at(s: &[u8], k: u64) -> Result<ProfileAt, Refusal>
     ensures { ProfileRead s.now k result }
 {
-    let o = open_file(s);
-    let checked = o.checked;
-    if checked.number != 0 {
-        return Err(Refusal {
-            number: checked.number,
-            line: checked.line,
-            column: checked.column,
-        });
-    }
-    let r = run_in(s, o, k).ok_or(NO_SUCH_PROFILE)?;
+    let o = open_file(s).accepted()?;
+    let r = run_in(s, o, k).ok_or(Refusal::nowhere(refusals::NO_SUCH_PLACE))?;
     Ok(ProfileAt {
-        kind: checked.kind,
+        kind: o.checked.kind,
         headers: o.headers,
         names: o.names,
         at: line_start(s, o.first, (r.first - 1) as usize),

@@ -119,7 +119,7 @@ module _ (s : List ℕ) (f : LineStart) where
         run_broken f.line (comments ctd) s f.at h (first_header_fault (line_at s f.at)) _ (first-header-step f.line (line_at s f.at) (not_comment s f.at h n)) tt
         b.number b.column (first_broken s f.at b e)
 
-    pub first_on : (r : FirstHeader) → first_header_for (first_header_fault_at s f.at) s f.at ≡ Ok r → HeadersOn s f r.said 1 (place f.at r.equals ∷ []) (r.end + 1)
+    pub first_on : (r : FirstHeader) → first_header_for (first_header_fault_at s f.at) s f.at ≡ Ok r → HeadersOn s f r.said 1 (place f.at r.header.equals ∷ []) (r.header.end + 1)
     first_on r e =
         let k = first-kept s f.at r e in
         let t = k.parted in
@@ -127,9 +127,9 @@ module _ (s : List ℕ) (f : LineStart) where
           many = refl;
           runs =
               run-clean f.line (comments ctd) s f.at h (first_header_fault (line_at s f.at)) _ (first-header-step f.line (line_at s f.at) (not_comment s f.at h n)) tt k.rules
-              ∙ run-same s (f.line + 1) (f.line + 1) f.line (f.line + 1 - 1) (headers_said (line_at s f.at) - 1) (r.said - 1) (f.at + length (line_at s f.at) + 1) (r.end + 1) _ _
-              refl (omega arith) (ap (λ (x : ℕ). x - 1) (sym (first_said s f.at r e).0)) (sym (headers-one s f.at r.equals r.end k.named t)) (omega (arith, t.end));
-          counted = header-counted s f.at r.equals r.end f.line t;
+              ∙ run-same s (f.line + 1) (f.line + 1) f.line (f.line + 1 - 1) (headers_said (line_at s f.at) - 1) (r.said - 1) (f.at + length (line_at s f.at) + 1) (r.header.end + 1) _ _
+              refl (omega arith) (ap (λ (x : ℕ). x - 1) (sym (first_said s f.at r e).0)) (sym (headers-one s f.at r.header.equals r.header.end k.named t)) (omega (arith, t.end));
+          counted = header-counted s f.at r.header.equals r.header.end f.line t;
         }
 
 -- ---- a later header line

@@ -40,10 +40,10 @@ fn add_row<'a>(s: &'a [u8], d: &mut Data, e: usize, kinds: &'a [u8]) -> Result<(
         });
     }
     let r = read_row(s, d.at, e, kinds)?;
-    let kept = 0 < d.rows && same_keys(s, d.last, r.keys);
+    let same_profile = 0 < d.rows && same_keys(s, d.last, r.keys);
     d.at = e + 1;
     d.rows += 1;
-    d.profiles += u64::from(!kept);
+    d.profiles += u64::from(!same_profile);
     d.missing += r.missing;
     d.last = r.keys;
     Ok(())

@@ -4,23 +4,23 @@ ghost use Rattle.rules.specs.Inner.Heads.{Begun, HeadersRead};
 
 use crate::free::{LineStart, line_due, on_line};
 use format::Refusal;
-use headers::{FirstHeader, first_header, header_line};
+use headers::{FirstHeader, MOST_HEADERS, first_header, header_line};
 use names::has_station;
 use text::{Span, refusals};
 
-// The header lines after the first one, h, which is at `from` and says how many there are.
-fn more_headers(s: &[u8], from: LineStart, h: FirstHeader) -> Result<LineStart, Refusal>
-    requires { Begun s.now from h }
+// The header lines after the first one, which is at `from` and says how many there are.
+fn more_headers(s: &[u8], from: LineStart, first: FirstHeader) -> Result<LineStart, Refusal>
+    requires { Begun s.now from first }
     ensures { HeadersRead s.now from result }
 {
-    let said = h.said;
+    let said = first.said;
     // An array with a count beside it: the library crates use no heap.
-    let mut places = [Span { start: 0, len: 0 }; 64];
+    let mut places = [Span { start: 0, len: 0 }; MOST_HEADERS];
     places[0] = Span {
         start: from.at,
-        len: h.equals - from.at,
+        len: first.header.equals - from.at,
     };
-    let mut at = h.end + 1;
+    let mut at = first.header.end + 1;
     for count in 1..said {
         let line = from.line + count as u64;
         if s.len() <= at {

@@ -8,6 +8,7 @@ use native.Mathlib.Omega.{arith}
 use lib.ListN.{length, get_or, set, drop, drop_of_length-le, length-set}
 use lib.Seq.{drop-cons}
 use lib.Dec.{eqb}
+use mir.Val.{bool_byte}
 use borrow.Author.Tests.{eq-eqb, ne_eqb, eqb-true, eqb-false}
 use Rattle.verdicts.specs.declared.Judged.{Judged}
 use Rattle.verdicts.specs.declared.Keys.{Keys}
@@ -17,75 +18,21 @@ use Rattle.verdicts.specs.Verdicts.{Verdict, blank, wrong, out_of_range, good, n
 use Rattle.verdicts.specs.Kinds.{kind_of}
 use Rattle.verdicts.specs.Judge.{judge, judged_of, stops_at, judged_at}
 use Rattle.verdicts.specs.Rows.{missing_in, noted, no_keys, ended_at, no_cells, is_last, cells_from, cells_at}
-use Rattle.verdicts.specs.Inner.Notes.{share, keys_in, noted_in}
+use Rattle.verdicts.specs.Inner.Notes.{share}
 use Rattle.line_bytes.specs.Inner.Scans.{Stop}
 use Rattle.line_bytes.proofs.CellLaws.{cell_end-parts, pieces-last, pieces_more}
 use Rattle.verdicts.proofs.JudgeLaws.{judged-number, judged_at_lem, judged-good}
 
--- ---- the keys as five numbers
-module _ (a q v : ℕ) where
-  noted-expocode : (l : List ℕ) → length l ≡ 5
-      → ◌≡◌ {A = Keys} (keys_in (set (set l 0 a) 1 (q - a))) (record { expocode = record { start = a; len = q - a }; stnnbr = (keys_in l).stnnbr; castno = (keys_in l).castno })
-  noted-expocode [] h = absurd (omega arith)
-  noted-expocode (x ∷ []) h = absurd (omega arith)
-  noted-expocode (x ∷ (y ∷ l)) h = refl
-
-  noted-stnnbr : (l : List ℕ) → length l ≡ 5
-      → ◌≡◌ {A = Keys} (keys_in (set (set l 2 a) 3 (q - a))) (record { expocode = (keys_in l).expocode; stnnbr = record { start = a; len = q - a }; castno = (keys_in l).castno })
-  noted-stnnbr [] h = absurd (omega arith)
-  noted-stnnbr (x ∷ []) h = absurd (omega arith)
-  noted-stnnbr (x ∷ (y ∷ [])) h = absurd (omega arith)
-  noted-stnnbr (x ∷ (y ∷ (z ∷ []))) h = absurd (omega arith)
-  noted-stnnbr (x ∷ (y ∷ (z ∷ (u ∷ l)))) h = refl
-
-  noted-castno : (l : List ℕ) → length l ≡ 5
-      → ◌≡◌ {A = Keys} (keys_in (set l 4 v)) (record { expocode = (keys_in l).expocode; stnnbr = (keys_in l).stnnbr; castno = v })
-  noted-castno [] h = absurd (omega arith)
-  noted-castno (x ∷ []) h = absurd (omega arith)
-  noted-castno (x ∷ (y ∷ [])) h = absurd (omega arith)
-  noted-castno (x ∷ (y ∷ (z ∷ []))) h = absurd (omega arith)
-  noted-castno (x ∷ (y ∷ (z ∷ (u ∷ [])))) h = absurd (omega arith)
-  noted-castno (x ∷ (y ∷ (z ∷ (u ∷ (w ∷ l))))) h = refl
-
--- noted in the five numbers, noted in the keys
-module _ (k a q v : ℕ) (l : List ℕ) where
-  noted_keys : length l ≡ 5 → keys_in (noted_in k a q v l) ≡ noted k a q v (keys_in l)
-  unfolding noted noted_in
-  noted_keys h = go (eqb k 6) (eqb k 7) (eqb k 8)
-    where
-      go : (x y z : Bool)
-          → ◌≡◌ {A = Keys} (keys_in (cond x (set (set l 0 a) 1 (q - a)) (cond y (set (set l 2 a) 3 (q - a)) (cond z (set l 4 v) l))))
-          (cond x (record { expocode = record { start = a; len = q - a }; stnnbr = (keys_in l).stnnbr; castno = (keys_in l).castno })
-          (cond y (record { expocode = (keys_in l).expocode; stnnbr = record { start = a; len = q - a }; castno = (keys_in l).castno })
-          (cond z (record { expocode = (keys_in l).expocode; stnnbr = (keys_in l).stnnbr; castno = v }) (keys_in l))))
-      go true y z = noted-expocode a q v l h
-      go false true z = noted-stnnbr a q v l h
-      go false false true = noted-castno a q v l h
-      go false false false = refl
-
-  noted-length : length (noted_in k a q v l) ≡ length l
-  unfolding noted_in
-  noted-length = go (eqb k 6) (eqb k 7) (eqb k 8)
-    where
-      go : (x y z : Bool) → length (cond x (set (set l 0 a) 1 (q - a)) (cond y (set (set l 2 a) 3 (q - a)) (cond z (set l 4 v) l))) ≡ length l
-      go true y z = simp length-set
-      go false true z = simp length-set
-      go false false true = simp length-set
-      go false false false = refl
-
-  -- x is what the code leaves of them
-  pub noted_in_lem : (x : List ℕ) → length l ≡ 5 → x ≡ noted_in k a q v l → (keys_in x ≡ noted k a q v (keys_in l)) × (length x ≡ 5)
-  noted_in_lem x h e = (ap keys_in e ∙ noted_keys h, ap length e ∙ noted-length ∙ h)
-
 -- ---- what a good cell adds to the missing readings, by the code's tests
-module _ (k : ℕ) (j : Judged) where
-  pub share_other : (k ≡ 0 → ⊥) → 0 ≡ share k j
-  unfolding share
-  share_other n = rw (ne_eqb k 0 n)
-
-  pub share-measured : (z : Bool) → k ≡ 0 → (j.minus && eqb j.size 999000000) ≡ z → cond z 1 0 ≡ share k j
-  unfolding share
-  share-measured z e m = rw (eq-eqb k 0 e, m)
+pub share_by : (k : ℕ) (j : Judged) → bool_byte (eqb k 0 && j.minus && eqb j.size 999000000) ≡ share k j
+unfolding share
+share_by k j = go (eqb k 0) j.minus (eqb j.size 999000000)
+  where
+    go : (x y z : Bool) → bool_byte (x && y && z) ≡ cond (x && (y && z)) 1 0
+    go true true true = refl
+    go true true false = refl
+    go true false z = refl
+    go false y z = refl
 
 -- it is one at most
 pub share_most : (x k : ℕ) (j : Judged) → x ≡ share k j → x ≤ 1

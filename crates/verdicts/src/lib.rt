@@ -2,7 +2,7 @@
 
 #![tactic(auto)]
 
-ghost use Rattle.std.specs.Prelude.{◌≡◌, ◌-◌, ◌^◌};
+ghost use Rattle.std.specs.Prelude.{◌≡◌, ◌-◌, ◌^◌, false};
 ghost use Rattle.verdicts.specs.Verdicts.{signed};
 ghost use Rattle.verdicts.specs.Judge.{stops_at};
 
@@ -22,6 +22,21 @@ pub struct Judged {
     pub decimals: u64,
 }
 
+impl Judged {
+    // A cell that is refused with the number.
+    pub fn refused(at: usize, number: u64) -> Judged
+        ensures { result ≡ record { at = at; number = number; minus = false; size = 0; decimals = 0 } }
+    {
+        Judged {
+            at,
+            number,
+            minus: false,
+            size: 0,
+            decimals: 0,
+        }
+    }
+}
+
 // Where the key cells of a line stand, with their spaces, and the number of its CASTNO.
 #[derive(Clone, Copy)]
 pub struct Keys {
@@ -31,6 +46,7 @@ pub struct Keys {
 }
 
 // Cells judged from the left: how many are good, and how many of those read as missing; the last one judged starts at `start` and ends at `at`.
+// It has the fields of that cell's Judged and not the Judged itself: `cells_at`, which judge_cells promises, names them one by one.
 #[derive(Clone, Copy)]
 pub struct CellsRead {
     pub start: usize,
@@ -64,11 +80,10 @@ pub fn signed_size(minus: bool, size: u64) -> i64
     if limits::TOO_LARGE <= size {
         return 0;
     }
-    let m = size as i64;
-    if minus { 0 - m } else { m }
+    if minus { -(size as i64) } else { size as i64 }
 }
 
-// How many millionths one in the last of so many decimals is.
+// How many millionths one in the last of so many decimals is. A table: a power of 10 would cut the difference from six at 0, and is no plainer.
 pub fn last_place(decimals: u64) -> u64
     ensures { result ≡ 10 ^ (6 - decimals) }
 {

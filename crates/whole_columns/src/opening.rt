@@ -30,24 +30,17 @@ pub fn open_column(
 ) -> Result<Column, Refusal>
     ensures { Found file.now column read_as room result }
 {
-    let o = rules::open_file(file);
+    let o = rules::open_file(file).accepted()?;
     let c = o.checked;
-    if c.number != 0 {
-        return Err(Refusal {
-            number: c.number,
-            line: c.line,
-            column: c.column,
-        });
-    }
     if (column < 1) | (c.columns < column) {
-        return Err(unread(refusals::NO_SUCH_PLACE));
+        return Err(Refusal::nowhere(refusals::NO_SUCH_PLACE));
     }
     let kind = columns::kind_in(file, o.names, column);
     if !is_read(read_as, kind) {
-        return Err(unread(refusals::COLUMN_OF_OTHER_KIND));
+        return Err(Refusal::nowhere(refusals::COLUMN_OF_OTHER_KIND));
     }
     if (room as u64) < c.rows {
-        return Err(unread(refusals::TABLE_TOO_SHORT));
+        return Err(Refusal::nowhere(refusals::TABLE_TOO_SHORT));
     }
     Ok(Column {
         column,
@@ -64,16 +57,5 @@ fn is_read(read_as: ReadAs, kind: u8) -> bool
     match read_as {
         ReadAs::Decimals => kind <= kinds::DEPTH,
         ReadAs::Flags => matches!(kind, kinds::FLAG | kinds::CTD_FLAG),
-    }
-}
-
-// A refusal that shows no line and no column.
-fn unread(number: u64) -> Refusal
-    ensures { (result.number ≡ number) × (result.line ≡ 0) × (result.column ≡ 0) }
-{
-    Refusal {
-        number,
-        line: 0,
-        column: 0,
     }
 }

@@ -1,22 +1,24 @@
-use mathlib.Core.Path.{sym, ◌∙◌}
-use borrow.Author.Tests.{le-leb, lt-leb}
+use native.Mathlib.Omega.{arith}
+use borrow.Author.Tests.{leb-true}
 use Rattle.verdicts.specs.Judge.{whole_at}
 use Rattle.verdicts.proofs.JudgeLaws.{stop_from}
+use Rattle.line_bytes.proofs.CellLaws.{both_true}
 use Rattle.cells.proofs.whole.Goals as goal
-use Rattle.cells.proofs.whole.Goals.{then-most-le9+else-stops, else-most-le9}
 
-pub whole_number-requires : goal.whole_number-requires
-whole_number-requires c = (stop_from _ _ _ _ (sym c.stops.ensures ∙ c.if-stops.true), c.if-most-le9.true)
+pub invariant_of-line : goal.invariant_of-line
+invariant_of-line c =
+    let t = stop_from _ _ _ _ (both_true _ _ (rw c.stops.ensures at c.if-most-stops.true)).1 in
+    record { room = t.room; feed = t.feed; parts = t.parts }
 
-pub returns-then-stops : goal.returns-then-stops
+pub whole_cell-requires : goal.whole_cell-requires
+whole_cell-requires c =
+    let b = both_true _ _ (rw c.stops.ensures at c.if-most-stops.true) in
+    ((stop_from _ _ _ _ b.1).inside, omega (arith, leb-true _ _ b.0))
+
+pub returns-then-most-stops : goal.returns-then-most-stops
 unfolding whole_at
-returns-then-stops c =
-    rw (le-leb _ _ c.if-most-le9.true, sym c.stops.ensures ∙ c.if-stops.true) c.whole_number.ensures
+returns-then-most-stops c = rw (rw c.stops.ensures at c.if-most-stops.true) c.whole_cell.ensures
 
-pub returns : goal.returns
+pub returns-else-most-stops : goal.returns-else-most-stops
 unfolding whole_at
-returns c =
-    elim c.if-most-le9.branch [
-      | then-most-le9+else-stops w ↦ rw (le-leb _ _ w.if-most-le9.true, sym w.stops.ensures ∙ w.if-stops.false) c.no_cell.ensures
-      | else-most-le9 w ↦ rw (lt-leb _ _ w.if-most-le9.false) c.no_cell.ensures
-    ]
+returns-else-most-stops c = rw (rw c.stops.ensures at c.if-most-stops.false) c.refused.ensures

@@ -37,6 +37,12 @@ pub record Worded (c : ℕ) (s : List ℕ) (i e r : ℕ) : Type 0 where
   pub over : Scan (word_byte c) s i r
   pub stops : word_byte c (get_or s r 0) ≡ false
 
+-- a cell's text begins at a, before the line feed at e
+pub record Begun (c : ℕ) (s : List ℕ) (a e : ℕ) : Type 0 where
+  pub short : a < e
+  pub inside : (eqb (get_or s a 0) c || eqb (get_or s a 0) line_feed) ≡ false
+  pub solid : is_space (get_or s a 0) ≡ false
+
 -- what is left of the cell from p on, without the spaces at its end
 unfoldable pub body : ℕ → List ℕ → ℕ → List ℕ
 body c s p = trim_end (cell_at c s p)

@@ -35,8 +35,7 @@ header_for (breaks n c) s i = Err (record { number = n; column = c })
 -- the same of the first, which says how many headers there are
 unfoldable pub first_header_for : Fault → List ℕ → ℕ → Result FirstHeader BrokenRule
 first_header_for clean s i = Ok (record {
-  end = i + length (line_at s i);
-  equals = i + length (raw_name (line_at s i));
+  header = record { end = i + length (line_at s i); equals = i + length (raw_name (line_at s i)) };
   said = headers_said (line_at s i);
 })
 first_header_for (breaks n c) s i = Err (record { number = n; column = c })

@@ -1,5 +1,10 @@
+use mathlib.Core.Path.{◌∙◌}
+use Rattle.std.proofs.lemmas.Result.{MatchResult-weaker}
 use Rattle.format.proofs.OpenedLaws.{opened-refused}
 use Rattle.labels.proofs.accepted.Goals as goal
 
-pub returns-then-checked-ne0 : goal.returns-then-checked-ne0
-returns-then-checked-ne0 c = opened-refused _ _ c.open_file-o.ensures c.if-checked-ne0.true
+pub returns : goal.returns
+returns c =
+    MatchResult-weaker c.accepted.result c.accepted.ensures
+    (λ o p. (p.0 ∙ c.open_file.ensures, p.1))
+    (λ r p. rw p.1 (opened-refused _ _ c.open_file.ensures p.0))

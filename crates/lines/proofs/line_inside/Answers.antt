@@ -4,5 +4,5 @@ use Rattle.lines.proofs.line_inside.Goals as goal
 
 pub returns-then-s-o-eq10 : goal.returns-then-s-o-eq10
 returns-then-s-o-eq10 c =
-    let w = c.limit_of-limit.ensures in
+    let w = c.min-limit.ensures in
     line_plain _ _ _ _ c.first_odd-o.ensures.over (omega arith) (omega arith) c.if-s-o-eq10.true

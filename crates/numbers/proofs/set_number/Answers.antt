@@ -2,15 +2,17 @@ use mathlib.Core.Path.{sym, ◌∙◌}
 use native.Mathlib.Omega.{arith}
 use Rattle.numbers.proofs.PatchLaws.{number-none, number-kept, number_in_lem, number_is}
 use Rattle.numbers.proofs.PutLaws.{cell_room, cell_left, cell_set}
+use Rattle.numbers.proofs.set_number.Goals.{then-decimals-gt-MOST_DECIMALS-via-then-decimals-gt-MOST_DECIMALS, then-decimals-gt-MOST_DECIMALS-via-else-decimals-gt-MOST_DECIMALS+then-not-has_room}
 use Rattle.numbers.proofs.set_number.Goals as goal
 
 pub returns-then-decimals-gt-MOST_DECIMALS : goal.returns-then-decimals-gt-MOST_DECIMALS
-returns-then-decimals-gt-MOST_DECIMALS c = let a = c.args in number-none a.file.now a.cell a.minus a.size a.decimals c.if-decimals-gt-MOST_DECIMALS.true
-
-pub returns-then-not-has_room : goal.returns-then-not-has_room
-returns-then-not-has_room c =
+returns-then-decimals-gt-MOST_DECIMALS c =
     let a = c.args in
-    number-kept a.file.now a.cell a.minus a.size a.decimals c.if-decimals-gt-MOST_DECIMALS.false c.text_length.ensures c.has_room.ensures c.if-not-has_room.true
+    elim c.then-decimals-gt-MOST_DECIMALS.branch [
+      | then-decimals-gt-MOST_DECIMALS-via-then-decimals-gt-MOST_DECIMALS w ↦ number-none a.file.now a.cell a.minus a.size a.decimals w.if-decimals-gt-MOST_DECIMALS.true
+      | then-decimals-gt-MOST_DECIMALS-via-else-decimals-gt-MOST_DECIMALS+then-not-has_room w ↦
+          number-kept a.file.now a.cell a.minus a.size a.decimals w.if-decimals-gt-MOST_DECIMALS.false w.text_length.ensures w.has_room.ensures w.if-not-has_room.true
+    ]
 
 pub overflow_add-cell : goal.overflow_add-cell
 overflow_add-cell c =

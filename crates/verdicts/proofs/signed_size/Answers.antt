@@ -1,11 +1,8 @@
-use Rattle.verdicts.proofs.SignLaws.{signed_large, signed_minus, signed_plain, minus-fits}
+use Rattle.verdicts.proofs.SignLaws.{signed_large, signed_minus, signed_plain}
 use Rattle.verdicts.proofs.signed_size.Goals as goal
 
 pub returns-then-size-ge-TOO_LARGE : goal.returns-then-size-ge-TOO_LARGE
 returns-then-size-ge-TOO_LARGE c = signed_large _ _ c.if-size-ge-TOO_LARGE.true
-
-pub overflow_sub-result : goal.overflow_sub-result
-overflow_sub-result c = minus-fits _ c.if-size-ge-TOO_LARGE.false
 
 pub returns-then-minus : goal.returns-then-minus
 returns-then-minus c = rw c.if-minus.true (signed_minus _ c.if-size-ge-TOO_LARGE.false)

@@ -36,8 +36,8 @@ returns c =
     let w = row_read a.s.now a.kinds.now a.d.now.at a.e _ c.read_row.ensures (line-stop p.1.0) p.2 p.3 in
     let f = rw c.in_ok-r.was at w in
     line_row a.s.now a.kinds.now a.d.now _ p.1.0 p.1.1 (rows-below p.0.few c.if-d-eq-MOST_ROWS.false) c.in_ok-r.r f p.0 _
-    (border_one c.if-d-gt0.kept _ _ c.from.ensures
+    (border_one c.if-d-gt0.same_profile _ _ c.from.ensures
     (elim c.if-d-gt0.branch [
-      | then-d-gt0 w ↦ w.kept-is ∙ w.same_keys-kept.ensures ∙ rw (lt-ltb 0 a.d.now.rows w.if-d-gt0.true) refl
-      | else-d-gt0 w ↦ w.kept-is ∙ rw (le-ltb 0 a.d.now.rows w.if-d-gt0.false) refl
+      | then-d-gt0 w ↦ w.same_profile-is ∙ w.same_keys-same_profile.ensures ∙ rw (lt-ltb 0 a.d.now.rows w.if-d-gt0.true) refl
+      | else-d-gt0 w ↦ w.same_profile-is ∙ rw (le-ltb 0 a.d.now.rows w.if-d-gt0.false) refl
     ]))

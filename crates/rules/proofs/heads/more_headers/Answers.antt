@@ -72,8 +72,8 @@ returns-then-not-has_station c =
     let a = c.args in
     let l = c.loop-count in
     let d = first_said a.s.now a.from.at _ c.requires.read in
-    let e : l.count ≡ a.h.said = omega (arith, l.auto.count-end (omega (arith, d.1)), c.loop-count-test.false) in
-    let o = subst (λ (n : ℕ). HeadersOn a.s.now a.from a.h.said n (take n l.places) l.at) e l.invariant.3 in
+    let e : l.count ≡ a.first.said = omega (arith, l.auto.count-end (omega (arith, d.1)), c.loop-count-test.false) in
+    let o = subst (λ (n : ℕ). HeadersOn a.s.now a.from a.first.said n (take n l.places) l.at) e l.invariant.3 in
     left_lacking o (omega arith) _ c.has_station.ensures (search rules)
 
 pub returns : goal.returns
@@ -81,6 +81,6 @@ returns c =
     let a = c.args in
     let l = c.loop-count in
     let d = first_said a.s.now a.from.at _ c.requires.read in
-    let e : l.count ≡ a.h.said = omega (arith, l.auto.count-end (omega (arith, d.1)), c.loop-count-test.false) in
-    let o = subst (λ (n : ℕ). HeadersOn a.s.now a.from a.h.said n (take n l.places) l.at) e l.invariant.3 in
+    let e : l.count ≡ a.first.said = omega (arith, l.auto.count-end (omega (arith, d.1)), c.loop-count-test.false) in
+    let o = subst (λ (n : ℕ). HeadersOn a.s.now a.from a.first.said n (take n l.places) l.at) e l.invariant.3 in
     left-named o (omega arith) _ c.has_station.ensures (search rules) (omega (arith, d.1)) l.invariant.1 (omega (arith, l.invariant.0, e))

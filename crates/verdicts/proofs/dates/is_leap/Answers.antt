@@ -1,7 +1,15 @@
-use mathlib.Core.Path.{refl}
+use borrow.Author.Tests.{eq-eqb, ne_eqb}
 use Rattle.verdicts.specs.Dates.{is_leap}
 use Rattle.verdicts.proofs.dates.is_leap.Goals as goal
 
-pub returns : goal.returns
+pub returns-then-y-ne0 : goal.returns-then-y-ne0
 unfolding is_leap
-returns c = refl
+returns-then-y-ne0 c = rw (eq-eqb _ _ c.if-y-eq0.true, ne_eqb _ _ c.if-y-ne0.true)
+
+pub returns-else-y-ne0 : goal.returns-else-y-ne0
+unfolding is_leap
+returns-else-y-ne0 c = rw (eq-eqb _ _ c.if-y-eq0.true, eq-eqb _ _ c.if-y-ne0.false)
+
+pub returns-else-y-eq0 : goal.returns-else-y-eq0
+unfolding is_leap
+returns-else-y-eq0 c = rw (ne_eqb _ _ c.if-y-eq0.false)
