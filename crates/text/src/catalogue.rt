@@ -1,9 +1,9 @@
 // The catalogue: a table of names and the kind of each.
-ghost use Rattle.std.specs.Prelude.{◌≡◌, ◌+◌, ◌*◌, ◌≤◌, length, eqb, position};
+ghost use Rattle.std.specs.Prelude.{◌≡◌, ◌+◌, ◌*◌, ◌≤◌, length};
 ghost use Rattle.line_bytes.specs.Bytes.{equal};
 ghost use Rattle.text.specs.Catalogue.{entry_name};
 
-use line_bytes::{kinds, same};
+use line_bytes::kinds;
 
 // So many bytes has an entry of the table.
 pub const ENTRY: usize = 16;
@@ -111,19 +111,20 @@ pub const KINDS: [u8; 48] = [
     kinds::MEASURED, // TRITUM
 ];
 
-// Where an entry's first zero stands.
-fn first_zero(entry: &[u8]) -> Option<usize>
-    ensures { result ≡ position (λ b. eqb b 0) entry.now }
-{
-    entry.iter().position(|b| *b == 0)
-}
-
 // Whether entry k has the name: the bytes before its first zero, and no others.
+// Left at the first other byte: a search that looks for the zero of each entry takes up to twice the time.
 pub fn is_entry<'a>(listed: &'a [u8], k: usize, name: &'a [u8]) -> bool
     requires { 16 * k + 16 ≤ length listed.now }
     ensures { result ≡ equal (entry_name listed.now k) name.now }
 {
-    let entry = &listed[ENTRY * k..ENTRY * k + ENTRY];
-    let n = first_zero(entry).unwrap_or(ENTRY);
-    same(&entry[..n], name)
+    if ENTRY < name.len() {
+        return false;
+    }
+    let entry = ENTRY * k;
+    for j in 0..name.len() {
+        if (listed[entry + j] != name[j]) | (name[j] == 0) {
+            return false;
+        }
+    }
+    name.len() == ENTRY || listed[entry + name.len()] == 0
 }
