@@ -23,12 +23,15 @@ use Rattle.format.specs.Inner.Grid.{cell_span}
 use Rattle.format.proofs.GridWalkLaws.{end_past, span_own, span-next, span-ended, span-fed}
 use Rattle.columns.specs.Inner.Columns.{is_last}
 use Rattle.format.specs.NamesLine.{name_in_line, kind_in_line, column_in_line, flag_in_line}
-use Rattle.columns.specs.Inner.NamesLine.{is_named, is_flag_of, first_from}
+use Rattle.columns.specs.Inner.NamesLine.{is_named, is_flag_of, first_from, is_wanted}
 use Rattle.columns.proofs.NamesLineLaws.{end-within, cell-text, cells-last, cells-more}
 
 -- ---- the first column that is wanted: the walk over the cells, which is at the cell at i, column k
 abbrev pub Looked : List ℕ → ℕ → (List ℕ → Bool) → ℕ → ℕ → Type 0
 Looked s at p i k = first_from 1 p (names_of (line_at s at)) ≡ first_from k p (names_of (line_at s i))
+
+pub look-first : (s : List ℕ) (at : ℕ) (p : List ℕ → Bool) → Looked s at p at 1
+look-first s at p = refl
 
 module _ (s : List ℕ) (i q : ℕ) (eq : q ≡ cell_end 44 s i) where
   pub look-room : is_last s q ≡ false → (i ≤ q) × (q < length s)
@@ -65,6 +68,14 @@ module _ (y n : List ℕ) where
   pub flag-of : (p : ℕ) → p ≡ parameter_length y → (b : Bool) → b ≡ equal (take p y) n → (ltb 0 p && b) ≡ is_flag_of n y
   unfolding is_flag_of
   flag-of p d b h = rw (h, d)
+
+  pub wanted-name : (f : Bool) → f ≡ false → (b : Bool) → b ≡ equal y n → b ≡ is_wanted f n y
+  unfolding is_wanted
+  wanted-name f e b h = rw e h
+
+  pub wanted-flag : (f : Bool) → f ≡ true → (p : ℕ) → p ≡ parameter_length y → (b : Bool) → b ≡ equal (take p y) n → (ltb 0 p && b) ≡ is_wanted f n y
+  unfolding is_wanted
+  wanted-flag f e p d b h = rw (e, h, d)
 
 first-flag : (k : ℕ) (n : List ℕ) (ys : List (List ℕ)) → first_from k (is_flag_of n) ys ≡ flag_from k n ys
 unfolding first_from flag_from is_flag_of

@@ -11,7 +11,7 @@ use lib.Seq.{take-suc, drop-drop, get_or-drop, length-take-le}
 use Rattle.std.proofs.Math.Seq.{take-suc-set}
 use Rattle.std.proofs.lemmas.List.{map-append}
 use lib.Dec.{eqb, leb}
-use borrow.Author.Tests.{eqb-true, eqb-false, leb-true, leb-false}
+use borrow.Author.Tests.{eqb-true, eqb-false, leb-true, leb-false, le-leb, lt-leb}
 use Rattle.line_bytes.specs.declared.Span.{Span}
 use Rattle.line_bytes.specs.Cells.{first_piece, later_pieces, pieces, line_at, cell_at, cell_end}
 use Rattle.line_bytes.specs.Spaces.{trim_front, trim_end, trim}
@@ -23,6 +23,16 @@ use Rattle.format.specs.Grid.{starts}
 use Rattle.columns.specs.Inner.Columns.{start_of, is_last, Placed}
 use Rattle.format.proofs.RunLaws.{piece_in}
 use Rattle.format.proofs.GridWalkLaws.{cell-slice, cells-ended, cells-fed, cells_parted, end_past}
+
+-- ---- the line's end
+module _ (s : List ℕ) (q : ℕ) where
+  pub last_past : length s ≤ q → true ≡ is_last s q
+  unfolding is_last
+  last_past h = rw (le-leb (length s) q h)
+
+  pub last-fed : q < length s → eqb (get_or s q 0) 10 ≡ is_last s q
+  unfolding is_last
+  last-fed h = rw (lt-leb (length s) q h)
 
 -- ---- a list from place n on
 module _ {A : Type 0} (l : List A) (n : ℕ) (x : A) (r : List A) (e : drop n l ≡ x ∷ r) where

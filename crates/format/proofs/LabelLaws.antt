@@ -32,7 +32,7 @@ use Rattle.format.specs.Inner.Lines.{lines_from}
 use Rattle.format.proofs.GridLaws.{get_d_mapped}
 use Rattle.format.proofs.GridWalkLaws.{start_none}
 use Rattle.format.proofs.HeadLaws.{equals-inside, lines-before}
-use Rattle.format.proofs.OpenedLaws.{LineThere, line-there, headers-order, OpenedTable, opened-table}
+use Rattle.format.proofs.OpenedLaws.{LineThere, line-there, headers-order, OpenedTable, opened-table, opened-refused}
 use Rattle.format.proofs.RunLaws.{lines_more}
 
 -- ---- the label of a column in a line, by the code's test
@@ -48,7 +48,7 @@ module _ (s : List ℕ) (i c n : ℕ) where
       go false false p q e = let z : ◌≡◌ {A = ℕ} 0 1 = cc in absurd (omega arith)
 
   module _ (e : (ltb c 1 || ltb n c) ≡ false) where
-    column-inside : (1 ≤ c) × (c ≤ n)
+    pub column-inside : (1 ≤ c) × (c ≤ n)
     column-inside = go (ltb c 1) (ltb n c) refl refl e
       where
         go : (a b : Bool) → ltb c 1 ≡ a → ltb n c ≡ b → (a || b) ≡ false → (1 ≤ c) × (c ≤ n)
@@ -151,6 +151,23 @@ header_read s i q e n v eq ee en ev = rw (en, ev) (rw (eq, ee))
 
 -- ---- an opened file
 module _ (s : List ℕ) (o : Opened) (q : o ≡ opened_of s) where
+  module _ (z : o.checked.number ≡ 0 → ⊥) where
+    pub named-refused : (name : List ℕ) → none_named o.checked.number o.checked.line o.checked.column ≡ named_of s name
+    unfolding named_of
+    named-refused name = sym (ap (named_by name) (opened-refused s o q z))
+
+    pub name-refused : (c : ℕ) → no_place o.checked.number o.checked.line o.checked.column ≡ name_place s c
+    unfolding name_place
+    name-refused c = sym (ap (name_by s c) (opened-refused s o q z))
+
+    pub unit-refused : (c : ℕ) → no_place o.checked.number o.checked.line o.checked.column ≡ unit_place s c
+    unfolding unit_place
+    unit-refused c = sym (ap (unit_by s c) (opened-refused s o q z))
+
+    pub header_refused : (k : ℕ) → no_header o.checked.number o.checked.line o.checked.column ≡ header_for s k
+    unfolding header_for
+    header_refused k = sym (ap (header_by s k) (opened-refused s o q z))
+
   module _ (z : o.checked.number ≡ 0) where
     w : OpenedTable s o
     w = opened-table s o q z

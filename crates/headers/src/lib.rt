@@ -17,7 +17,7 @@ use text::{Span, kinds, refusals};
 pub const MOST_HEADERS: usize = 64;
 
 // The most bytes of a header's name.
-const MOST_NAME_BYTES: usize = 64;
+pub const MOST_NAME_BYTES: usize = 64;
 
 // A bad header line.
 const BAD_HEADER: BrokenRule = BrokenRule {

@@ -1,13 +1,15 @@
 -- Two texts with the same bytes: what the test says, and its steps by an index.
-use Prim.Native.Nat.{ℕ, suc}
+use Prim.Native.Nat.{ℕ, suc, ◌+◌, ◌≤◌, ◌<◌}
 use mathlib.Core.Path.{◌≡◌, refl, sym, ap, ◌∙◌}
 use mathlib.Core.List.{List, [], ◌∷◌}
 use mathlib.Core.Bool.{Bool, true, false, ◌&&◌, false≢true, and-eq-true_iff}
-use lib.ListN.{length}
+use lib.ListN.{length, get_or, drop, drop_of_length-le}
 use lib.Dec.{eqb}
 use borrow.Author.Tests.{eq-eqb, ne_eqb, eqb-true, eqb-false}
 use Rattle.std.specs.Cmp.Lexicographic.{pointwise}
 use Rattle.line_bytes.specs.Bytes.{equal}
+use native.Mathlib.Numerals.{add-one}
+use lib.Seq.{drop-cons}
 
 -- a text is the same as itself, and only as itself
 pub equal_refl : (xs : List ℕ) → equal xs xs ≡ true
@@ -35,6 +37,20 @@ equal_lengths [] [] f = absurd (f refl)
 equal_lengths [] (y ∷ ys) f = refl
 equal_lengths (x ∷ xs) [] f = refl
 equal_lengths (x ∷ xs) (y ∷ ys) f = not_both (eqb x y) (equal xs ys) (equal_lengths xs ys (λ e. f (ap suc e)))
+
+-- the same two texts from a place on: at their ends, at bytes that differ, past a byte that is the same
+module _ (xs ys : List ℕ) (i : ℕ) where
+  pub equal-end : length xs ≤ i → length ys ≤ i → equal (drop i xs) (drop i ys) ≡ true
+  unfolding equal
+  equal-end h k = rw (drop_of_length-le xs h, drop_of_length-le ys k)
+
+  pub equal-stop : i < length xs → i < length ys → (get_or xs i 0 ≡ get_or ys i 0 → ⊥) → equal (drop i xs) (drop i ys) ≡ false
+  unfolding equal
+  equal-stop h k f = rw (drop-cons xs i 0 h, drop-cons ys i 0 k) (rw (ne_eqb _ _ f))
+
+  pub equal-step : i < length xs → i < length ys → get_or xs i 0 ≡ get_or ys i 0 → equal (drop i xs) (drop i ys) ≡ equal (drop (i + 1) xs) (drop (i + 1) ys)
+  unfolding equal
+  equal-step h k e = rw (add-one i, drop-cons xs i 0 h, drop-cons ys i 0 k) (rw (eq-eqb _ _ e))
 
 -- as `==` says it
 pub equal_pointwise : (xs ys : List ℕ) → pointwise eqb xs ys ≡ equal xs ys

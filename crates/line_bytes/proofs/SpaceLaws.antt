@@ -8,7 +8,7 @@ use native.Mathlib.Numerals.{add-one, sub-one}
 use native.Mathlib.Nat.{le_refl, not-suc-le-zero, sub-zero, sub_self}
 use native.Mathlib.Omega.{arith}
 use lib.ListN.{length, get_or, take, drop, replicate, length-take, length-append}
-use lib.Seq.{append_snoc, slice, slice-cons, length-slice, take-nil, take-suc, take-take, drop-drop, drop-append-le, length-take-le}
+use lib.Seq.{append_snoc, slice, slice-cons, length-slice, take-nil, take-suc, take-take, drop-drop, drop-append-le, length-take-le, slice_empty}
 use lib.Dec.{leb}
 use borrow.Author.Tests.{eq-eqb, ne_eqb, le-leb, lt-leb, leb-true, not-true}
 use Rattle.std.specs.List.{prefix_len, take_while, slice_range}
@@ -248,11 +248,23 @@ module _ (s : List ℕ) where
   trim_end-stop a zero h l f = absurd (not-suc-le-zero h)
   trim_end-stop a (suc k) h l f = rw (slice_snoc a k (omega arith) l) (trim_end-other (slice a k s) (get_or s k 0) (ne_eqb _ 32 (rw sub-one at f)))
 
+  pub trim_end-step : (a j : ℕ) → a < j → j ≤ length s → get_or s (j - 1) 0 ≡ 32 → trim_end (slice a j s) ≡ trim_end (slice a (j - 1) s)
+  trim_end-step a zero h l e = absurd (not-suc-le-zero h)
+  trim_end-step a (suc k) h l e = rw (sub-one, slice_snoc a k (omega arith) l) (trim_end-space (slice a k s) (get_or s k 0) (eq-eqb _ 32 (rw sub-one at e)))
+
+  pub trim_end-none : (a j : ℕ) → j ≤ a → a ≤ j → trim_end (slice a j s) ≡ slice a j s
+  unfolding trim_end
+  trim_end-none a j h k = let e : j ≡ a = omega arith in rw (e, slice_empty)
+
   pub trim_front-stop : (i e : ℕ) → i < e → e ≤ length s → (get_or s i 0 ≡ 32 → ⊥) → trim_front (slice i e s) ≡ slice i e s
   trim_front-stop i e h l f = rw (slice-cons i e s 0 h l) (trim_front-other _ _ (ne_eqb _ 32 f))
 
   pub trim_front-step : (i e : ℕ) → i < e → e ≤ length s → get_or s i 0 ≡ 32 → trim_front (slice i e s) ≡ trim_front (slice (i + 1) e s)
   trim_front-step i e h l q = rw (add-one i, slice-cons i e s 0 h l) (trim_front-space _ _ (eq-eqb _ 32 q))
+
+  pub trim_front-none : (i e : ℕ) → e ≤ i → i ≤ e → trim_front (slice i e s) ≡ slice i e s
+  unfolding trim_front
+  trim_front-none i e h k = let q : i ≡ e = omega arith in rw (q, slice_empty)
 
 -- ---- how many spaces stand at each end
 front_spaces : (t : List ℕ) → length (trim_front t) + prefix_len is_space t ≡ length t
@@ -285,11 +297,19 @@ module _ (s : List ℕ) (a e : ℕ) where
   span_other (inl h) = rw (lt-leb a e h)
   span_other (inr k) = rw (lt-leb e (length s) k, and-false (leb a e))
 
+  pub span-before : e < a → ◌≡◌ {A = Span} (record { start = 0; len = 0 }) (trim_span s a e)
+  span-before h = span_other (inl h)
+
   module _ (h : a ≤ e) where
     pub span_past : length s < e → ◌≡◌ {A = Span} (record { start = 0; len = 0 }) (trim_span s a e)
     span_past k = span_other (inr k)
 
     module _ (k : e ≤ length s) where
+      pub span-end : (z : ℕ) → a ≤ z → z ≤ e → trim_end (slice a e s) ≡ slice a z s → (z ≡ a + length (trim_end (slice a e s))) × (a ≤ z) × (z ≤ e) × (trim_end (slice a e s) ≡ slice a z s)
+      span-end z l m q =
+          let n : length (trim_end (slice a e s)) ≡ z - a = ap length q ∙ length-slice a z s (omega arith) in
+          (omega arith, l, m, q)
+
       pub span-counted : (t : List ℕ) (m f : ℕ) → t ≡ slice_range s a e → m ≡ length (take_while is_space (reverse t)) → f ≡ length (take_while is_space (take (length t - m) t))
           → ◌≡◌ {A = Span} (record { start = a + f; len = (length t - m) - f }) (trim_span s a e)
       unfolding trim_span indent trim

@@ -1,10 +1,10 @@
 -- Line 1: what its rules say at each return, and what its callers have of it.
-use Prim.Native.Nat.{ℕ, ◌+◌, ◌-◌, ◌≤◌}
+use Prim.Native.Nat.{ℕ, ◌+◌, ◌-◌, ◌≤◌, ◌<◌}
 use mathlib.Core.Path.{◌≡◌, refl, sym, ap, ◌∙◌}
 use mathlib.Core.List.{List, [], ◌∷◌}
 use mathlib.Core.Bool.{Bool, true, false, cond, not, ◌||◌}
 use native.Mathlib.Omega.{arith}
-use lib.ListN.{length, take}
+use lib.ListN.{length, take, length-take}
 use lib.Dec.{eqb}
 use borrow.Author.Tests.{eq-eqb, ne_eqb, eqb-true, eqb-false}
 use Rattle.line_bytes.specs.Bytes.{equal}
@@ -24,6 +24,7 @@ use Rattle.line_one.specs.Inner.First.{kind_said, first_fault, first_by, first_f
 use Rattle.format.proofs.GridWalkLaws.{cell-slice}
 use Rattle.format.proofs.RunLaws.{piece_in, piece-take, line_ok, line_err, line-ends}
 use Rattle.format.proofs.FaultLaws.{breaks-clean}
+use Rattle.line_bytes.proofs.EqualLaws.{equal_lengths}
 
 -- ---- the text before line 1's first comma
 pub word-inside : (s : List ℕ) (q : ℕ) → q ≡ cell_end 44 s 0 → q ≤ length s
@@ -142,3 +143,7 @@ module _ (s : List ℕ) where
 
     pub first_next : (r.at ≡ length (line_at s 0) + 1) × (r.kind ≡ cond (is_bottle (line_at s 0)) Bottle Ctd)
     first_next = let w = read (first_fault s) e in (w.1, w.2)
+
+-- ---- a line that is too short for the mark
+pub mark-short : (x : List ℕ) → length x < 3 → false ≡ is_mark x
+mark-short x h = sym (equal_lengths (take 3 x) (0xef ∷ 0xbb ∷ 0xbf ∷ []) (λ e. omega (arith, length-take 3 x)))

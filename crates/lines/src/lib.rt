@@ -15,9 +15,9 @@ use grid::line_end;
 use text::refusals;
 
 // The most bytes of a line, and the column after them.
-const MOST_BYTES: usize = 8192;
+pub const MOST_BYTES: usize = 8192;
 
-const COLUMN_PAST: u64 = 8193;
+pub const COLUMN_PAST: u64 = 8193;
 
 // Whether the byte is one of 20 to 7E.
 fn is_plain(b: u8) -> bool

@@ -151,3 +151,18 @@ pub whole_power : (n k : ℕ) → 10 ^ k ≤ n → n < 10 * 10 ^ k → k < 20 �
 whole_power n k h l b =
     let p : 10 ^ suc k ≡ 10 ^ k * 10 = pow-suc 10 k in
     (omega (arith, whole-many 19 k n (omega arith) h, whole_length 19 k n (omega arith)), omega arith)
+
+-- ---- how many digits a number of less than 21 has
+whole_fuel : (k n : ℕ) → n < 10 ^ suc k → whole_digits k n ≡ whole_digits (suc k) n
+unfolding whole_digits
+whole_fuel zero n h = rw (lt-ltb n 10 h)
+whole_fuel (suc k) n h =
+    let p : n < 10 ^ suc k * 10 = rw pow-suc at h in
+    ap (λ (xs : List ℕ). cond (ltb n 10) ((48 + n % 10) ∷ []) (xs ++ (48 + n % 10) ∷ [])) (whole_fuel k (n / 10) (omega arith))
+
+pub whole-more : (n : ℕ) → 10 ≤ n → n < 10 ^ 20 → length (whole_text n) ≡ length (whole_text (n / 10)) + 1
+whole-more n h l = whole_by (λ xs. length xs ≡ length (whole_text (n / 10)) + 1) 18 n (λ k. absurd (omega arith))
+    (λ k. one_more (whole_digits 18 (n / 10)) (48 + n % 10) ∙ ap (λ (xs : List ℕ). length xs + 1) (whole_fuel 18 (n / 10) (omega arith)))
+
+pub whole-few : (n : ℕ) → n < 10 ^ 20 → length (whole_text n) ≤ 20
+whole-few n h = whole_length 19 19 n h

@@ -1,13 +1,13 @@
 -- The bytes of a file replaced by a text: the length stays, patches side by side are one, and a text is set in a cell that has room for it.
-use Prim.Native.Nat.{ℕ, suc, ◌+◌, ◌≤◌, ◌<◌}
-use mathlib.Core.Path.{◌≡◌, sym, ap, ◌∙◌}
+use Prim.Native.Nat.{ℕ, suc, ◌+◌, ◌≤◌, ◌<◌, ◌-◌}
+use mathlib.Core.Path.{◌≡◌, sym, ap, ◌∙◌, refl}
 use mathlib.Core.List.{List, [], ◌∷◌, ◌++◌, append_assoc}
-use mathlib.Core.Bool.{Bool, true, false, and-eq-true_iff}
+use mathlib.Core.Bool.{Bool, true, false, and-eq-true_iff, ◌&&◌}
 use native.Mathlib.Omega.{arith}
 use lib.ListN.{length, get_or, set, take, drop, take-append-drop, length-append, length-drop}
 use lib.Seq.{take-suc, set_at, length-take-le, append_snoc, take-append-le, take-take, drop_at}
 use lib.Dec.{leb}
-use borrow.Author.Tests.{le-leb, lt-leb, leb-true}
+use borrow.Author.Tests.{le-leb, lt-leb, leb-true, leb-false}
 use Rattle.line_bytes.specs.declared.Span.{Span}
 use Rattle.numbers.specs.Texts.{text_of, text_length, flag_text, at_right}
 use Rattle.numbers.specs.Patches.{patch, has_room, text_set, number_set, digit_set}
@@ -104,3 +104,18 @@ module _ (f : List ℕ) (p : Span) (v : ℕ) where
 
     pub digit_in : r ≡ true → InCell f p (flag_text v)
     digit_in z = in_cell f p (flag_text v) (sym room ∙ z)
+
+-- ---- room in a cell, by its two tests
+pub room-none : (n k : ℕ) (p : Span) → n < p.start → false ≡ has_room n p k
+room-none n k p h = go (leb k p.len)
+  where
+    go : (b : Bool) → false ≡ (b && leb (p.start + p.len) n)
+    go true = sym (lt-leb (p.start + p.len) n (omega arith))
+    go false = refl
+
+pub room-some : (n k : ℕ) (p : Span) → p.start ≤ n → (leb k p.len && leb p.len (n - p.start)) ≡ has_room n p k
+room-some n k p h = ap (λ (b : Bool). leb k p.len && b) (same (leb (p.start + p.len) n) refl)
+  where
+    same : (b : Bool) → leb (p.start + p.len) n ≡ b → leb p.len (n - p.start) ≡ b
+    same true e = le-leb p.len (n - p.start) (omega (arith, leb-true (p.start + p.len) n e))
+    same false e = lt-leb p.len (n - p.start) (omega (arith, leb-false (p.start + p.len) n e))

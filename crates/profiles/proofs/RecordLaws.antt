@@ -120,6 +120,9 @@ module _ {s : List ℕ} {o : Opened} (w : OpenedTable s o) where
       kinds-many : length (take c.count c.kinds) ≡ c.count
       kinds-many = ap length columns.kinds ∙ length-map (names_of (line_at s o.names)) kind_of_name ∙ sym columns.many
 
+      pub kinds_taken : c.count ≡ length (take c.count c.kinds)
+      kinds_taken = sym kinds-many
+
       pub kinds-room : c.count ≤ 256
       kinds-room = columns.few
 

@@ -2,18 +2,19 @@
 use Prim.Native.Nat.{ℕ, ◌+◌, ◌-◌, ◌<◌}
 use mathlib.Core.Path.{◌≡◌, refl, sym, ap, ◌∙◌}
 use mathlib.Core.List.{List, []}
-use mathlib.Core.Bool.{Bool, true, false}
+use mathlib.Core.Bool.{Bool, true, false, not, ◌&&◌, true≢false}
 use native.Mathlib.Omega.{arith}
 use lib.ListN.{length, take, drop}
 use lib.Seq.{slice}
-use lib.Dec.{leb}
-use borrow.Author.Tests.{leb-true, leb-false}
+use lib.Dec.{leb, eqb}
+use borrow.Author.Tests.{leb-true, leb-false, eq-eqb, ne_eqb}
 use Rattle.line_bytes.specs.declared.Span.{Span}
 use Rattle.line_bytes.specs.Bytes.{equal}
 use Rattle.line_bytes.specs.Spaces.{trim_front, trim_end, trim}
 use Rattle.line_bytes.proofs.SpaceLaws.{slice-take, span-bytes, span_past}
 use Rattle.format.specs.Inner.Names.{text_in}
 use Rattle.format.specs.Inner.Rows.{span_text}
+use Rattle.format.specs.Profiles.{Key, same_key}
 
 -- ---- the text of a span
 trim-none : trim [] ≡ []
@@ -42,3 +43,23 @@ module _ (s : List ℕ) (x : Span) where
 pub spans_empty : (s : List ℕ) (x y : Span) → (x.len ≡ 0) × (y.len ≡ 0) → true ≡ equal (span_text s x) (span_text s y)
 unfolding equal
 spans_empty s x y h = rw (span_empty s x h.0, span_empty s y h.1)
+
+-- ---- two keys compared
+pub texts-equal : (r : Bool) (u v a b : List ℕ) → r ≡ equal u v → u ≡ a → v ≡ b → r ≡ equal a b
+texts-equal r u v a b h p q = h ∙ ap (λ (w : List ℕ). equal w v) p ∙ ap (equal a) q
+
+module _ (x y : Key) where
+  pub key-castno : (x.castno ≡ y.castno → ⊥) → false ≡ same_key x y
+  key-castno h = rw (ne_eqb x.castno y.castno h)
+
+  pub key-stnnbr : (r : Bool) → r ≡ equal x.stnnbr y.stnnbr → not r ≡ true → false ≡ same_key x y
+  key-stnnbr true e h = absurd (true≢false (sym h))
+  key-stnnbr false e h = rw (sym e) (go (eqb x.castno y.castno))
+    where
+      go : (b : Bool) → false ≡ (b && false)
+      go true = refl
+      go false = refl
+
+  pub key-expocode : (r q : Bool) → x.castno ≡ y.castno → not r ≡ false → r ≡ equal x.stnnbr y.stnnbr → q ≡ equal x.expocode y.expocode → q ≡ same_key x y
+  key-expocode false q c h e f = absurd (true≢false h)
+  key-expocode true q c h e f = rw (eq-eqb x.castno y.castno c, sym e) f

@@ -312,7 +312,7 @@ border_one k e n h q = h ∙ rw q (go e)
     go true = refl
     go false = refl
 
-one-few : (b : Bool) (n : ℕ) → n ≡ cond b 1 0 → n ≤ 1
+pub one-few : (b : Bool) (n : ℕ) → n ≡ cond b 1 0 → n ≤ 1
 one-few true n h = omega arith
 one-few false n h = omega arith
 

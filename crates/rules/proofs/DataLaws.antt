@@ -25,6 +25,7 @@ use Rattle.rows.specs.Inner.RowReads.{RowKept}
 use Rattle.rules.specs.Inner.Data.{border, DataHeld, LineHeld, RowAdded, DataTold}
 use Rattle.format.proofs.RuleLaws.{end_step, row_step}
 use Rattle.format.proofs.RunLaws.{run-stopped, run-line, lines_end, lines_more, line_clean, line_broken, piece-take}
+use Rattle.verdicts.specs.Rows.{no_keys}
 
 -- ---- one line of the data place
 module _ (l : ℕ) (t : Table) (n : ℕ) (x : List ℕ) where
@@ -162,6 +163,15 @@ pub record SoFar (s ks : List ℕ) (i : ℕ) (d : Data) : Type 0 where
   pub on : (t : Table) (l : ℕ) → kinds_of t.names ≡ ks → run l (rows t 0) (lines_from s i) ≡ run (l + d.rows) (rows t d.rows) (lines_from s d.at)
   pub missing : (n : ℕ) → missing_in_rows ks (rows_from s i (d.rows + n)) ≡ d.missing + missing_in_rows ks (rows_from s d.at n)
   pub profiles : (n : ℕ) → run_count (map (key_of ks) (rows_from s i (d.rows + n))) ≡ d.profiles + borders_after d.rows (key_at s d.last) (map (key_of ks) (rows_from s d.at n))
+
+pub so-far-none : (s ks : List ℕ) (i : ℕ) → i ≤ length s → SoFar s ks i (record { at = i; rows = 0; profiles = 0; missing = 0; last = no_keys })
+so-far-none s ks i h = record {
+  held = record { few = omega arith; profiles = omega arith; missing = omega arith };
+  inside = (omega arith, h);
+  on = λ t l k. ap (λ (a : ℕ). run a (rows t 0) (lines_from s i)) (omega arith);
+  missing = λ n. let e : 0 + n ≡ n = omega arith in ap (λ (a : ℕ). missing_in_rows ks (rows_from s i a)) e ∙ omega arith;
+  profiles = λ n. let e : 0 + n ≡ n = omega arith in ap (λ (a : ℕ). run_count (map (key_of ks) (rows_from s i a))) e ∙ omega arith;
+}
 
 module _ (s ks : List ℕ) (i : ℕ) (d : Data) (x : SoFar s ks i d) where
   module _ (r : Data) (a : RowAdded s ks d r) where

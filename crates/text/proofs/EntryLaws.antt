@@ -6,7 +6,7 @@ use mathlib.Core.Bool.{Bool, true, false, cond, not, ◌||◌, false≢true}
 use native.Mathlib.Numerals.{add-one}
 use native.Mathlib.Nat.{sub-zero}
 use native.Mathlib.Omega.{arith}
-use lib.ListN.{length, get_or, drop, length-drop, drop_of_length-le}
+use lib.ListN.{length, get_or, drop, length-drop, drop_of_length-le, get_or-eq_default}
 use lib.Dec.{eqb}
 use lib.Seq.{drop-cons, get_or-take, get_or-drop, length-take-le}
 use borrow.Author.Tests.{eqb-true, eqb-false}
@@ -120,3 +120,7 @@ module _ (t ks name : List ℕ) where
   pub kind_at_lem : (k : ℕ) → look_up t name ≡ Some k → get_or ks k 11 ≡ kind_in t ks name
   unfolding kind_in
   kind_at_lem k e = rw e
+
+  pub kind_past : (k : ℕ) → look_up t name ≡ Some k → length ks ≤ k → 11 ≡ kind_in t ks name
+  unfolding kind_in
+  kind_past k e h = rw e (sym (get_or-eq_default ks 11 h))

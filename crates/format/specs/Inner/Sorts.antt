@@ -2,7 +2,7 @@
 use Rattle.std.specs.Prelude.{ℕ, Bool, cond, eqb}
 use Rattle.format.specs.Columns.{Sort, bottle, ctd}
 
--- the code's number of a kind of file, and its test for a bottle file
+-- the kind of the number 1 and of any other, and that of the code's test for a bottle file
 abbrev pub sort_of : ℕ → Sort
 sort_of k = cond (eqb k 1) bottle ctd
 
