@@ -7,7 +7,6 @@ use crate::tables::{answer_flags, answer_values};
 use crate::walks::answer_walk;
 use correction::{Answer, Order};
 use exchange::CastTime;
-use report_text::PAGE_BYTES;
 
 fn answer_check(file: &[u8], out: &mut Page) {
     let c = exchange::check(file);
@@ -82,16 +81,15 @@ fn answer_line(line: &[u8], out: &mut Page) {
     out.field(l.flag);
 }
 
-fn answer_report(file: &[u8], out: &mut Page) {
-    let mut page = [0u8; PAGE_BYTES];
-    let n = report_text::report(file, &mut page);
+fn answer_report(file: &[u8], page: &mut [u8], out: &mut Page) {
+    let n = report_text::report(file, page);
     out.put(b"report");
-    out.crc_field(crc_of(&page[..n.min(PAGE_BYTES)]));
+    out.crc_field(crc_of(&page[..n.min(page.len())]));
     out.field(n as u64);
 }
 
-// Answers the request of a line on its bytes.
-pub fn answer(line: &[u8], file: &mut [u8], out: &mut Page) {
+// Answers the request of a line on its bytes. A report is laid out on the page, which is lent, since clearing one for each report takes longer than most reports.
+pub fn answer(line: &[u8], file: &mut [u8], page: &mut [u8], out: &mut Page) {
     let n = number_in(line, 1);
     let m = number_in(line, 2);
     match word(line, 0) {
@@ -102,7 +100,7 @@ pub fn answer(line: &[u8], file: &mut [u8], out: &mut Page) {
         b"profile" => answer_profile(file, n, out),
         b"correct" => answer_correct(line, file, out),
         b"line" => answer_line(file, out),
-        b"report" => answer_report(file, out),
+        b"report" => answer_report(file, page, out),
         b"open" => answer_open(file, out),
         b"name" => out.place(b"name", exchange::name_place(file, n)),
         b"unit" => out.place(b"unit", exchange::unit_place(file, n)),

@@ -9,6 +9,7 @@ use crate::input::Input;
 use crate::named::answer_with_name;
 use crate::puts::Page;
 use crate::request::{Lengths, lengths_in};
+use report_text::PAGE_BYTES;
 use std::io;
 use std::io::{Read, Write};
 
@@ -42,13 +43,13 @@ fn read_blocks<R: Read>(
 }
 
 // Puts the answer to a request whose blocks were taken.
-fn put_answer(line: &[u8], lengths: Lengths, file: &mut [u8], out: &mut Page) {
+fn put_answer(line: &[u8], lengths: Lengths, file: &mut [u8], page: &mut [u8], out: &mut Page) {
     if file.len() < lengths.file {
         return out.put(b"too long");
     }
     let (file, blocks) = file.split_at_mut(lengths.file);
     let Some(length) = lengths.name else {
-        return answer(line, file, out);
+        return answer(line, file, page, out);
     };
     match blocks.get(..length) {
         Some(name) => answer_with_name(line, file, name, out),
@@ -61,6 +62,7 @@ fn serve<R: Read, W: Write>(
     input: &mut Input<R>,
     output: &mut W,
     file: &mut [u8],
+    page: &mut [u8],
     out: &mut Page,
 ) -> io::Result<bool> {
     // Zeros stand behind the line, so that a word which no space ends is no request's.
@@ -76,7 +78,7 @@ fn serve<R: Read, W: Write>(
         output.write_all(out.text())?;
         out.clear();
     }
-    put_answer(&line, lengths, file, out);
+    put_answer(&line, lengths, file, page, out);
     out.put(b"\n");
     Ok(true)
 }
@@ -86,10 +88,11 @@ fn main(rt: HostRuntime) -> io::Result<()> {
     let mut buffer = [0u8; 65536];
     let mut input = Input::new(rt.reader(), &mut buffer);
     let mut file = [0u8; 131072];
+    let mut page = [0u8; PAGE_BYTES];
     let mut room = [0u8; 65536];
     let mut out = Page::new(&mut room);
     for _ in 0..MOST_REQUESTS {
-        if !serve(&mut input, &mut output, &mut file, &mut out)? {
+        if !serve(&mut input, &mut output, &mut file, &mut page, &mut out)? {
             break;
         }
     }
