@@ -88,7 +88,7 @@ fn answer_report(file: &[u8], page: &mut [u8], out: &mut Page) {
     out.field(n as u64);
 }
 
-// Answers the request of a line on its bytes. A report is laid out on the page, which is lent, since clearing one for each report takes longer than most reports.
+// Answers the request of a line on its bytes. A report is laid out on the page, which is lent, since clearing one for each takes longer than the report of a small refused file.
 pub fn answer(line: &[u8], file: &mut [u8], page: &mut [u8], out: &mut Page) {
     let n = number_in(line, 1);
     let m = number_in(line, 2);
